@@ -1,0 +1,14 @@
+use Rattle.market.proofs.InOrder.{ordered-removed}
+use lib.ListN.{take}
+use Rattle.precedence.proofs.Slices.{removed-is, remove-front}
+use Rattle.precedence.proofs.list.remove.Needs as need
+
+pub returns : need.returns
+returns g c =
+    let xs = c .args .list .now in
+    let ys = c .copy-within .last .self in
+    let n = c .args .count in
+    let at = c .args .at in
+    let is = removed-is xs ys n at (c .pre .0) (c .pre .1) (c .copy-within .ensures .after) in
+    let front = remove-front xs ys n at (c .pre .0) (c .pre .1) is in
+    record { after = is; front = front; ordered = λ b o. rw front (ordered-removed b (take n xs) at o) }
