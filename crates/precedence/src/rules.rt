@@ -78,10 +78,20 @@ pub impl Rule for Size as SizeRule {
     ghost orders = { λ _. size-orders };
 
     fn quote_precedes(&self, side: Side, a: &QuoteKey, b: &QuoteKey) -> bool {
-        by_price(side, a.price, b.price, by_quantity(a.entered, b.entered, a.arrival < b.arrival))
+        by_price(
+            side,
+            a.price,
+            b.price,
+            by_quantity(a.entered, b.entered, a.arrival < b.arrival),
+        )
     }
 
     fn order_precedes(&self, side: Side, a: &OrderKey, b: &OrderKey) -> bool {
-        by_price(side, a.price, b.price, by_quantity(a.entered, b.entered, a.number < b.number))
+        by_price(
+            side,
+            a.price,
+            b.price,
+            by_quantity(a.entered, b.entered, a.number < b.number),
+        )
     }
 }
