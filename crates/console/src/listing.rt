@@ -27,33 +27,47 @@ pub impl fmt::Display for Line as LineDisplay {
     fn fmt<W: fmt::Write>(&self, f: &mut fmt::Formatter<W>) -> fmt::Result {
         let place = self.place;
         match self.said {
-            Ok(Event::Make {
-                dealers,
-                least_quantity,
-                previous_average,
-                day_kind,
-                rule,
-            }) => write!(f, "{place} M {dealers} {least_quantity} {previous_average} {day_kind} {rule}"),
+            Ok(
+                Event::Make {
+                    dealers,
+                    least_quantity,
+                    previous_average,
+                    day_kind,
+                    rule,
+                },
+            ) => write!(
+                f,
+                "{place} M {dealers} {least_quantity} {previous_average} {day_kind} {rule}"
+            ),
             Ok(Event::Clock { time }) => write!(f, "{place} N {time}"),
-            Ok(Event::Quote {
-                dealer,
-                bid,
-                bid_quantity,
-                ask,
-                ask_quantity,
-            }) => write!(f, "{place} Q {dealer} {bid} {bid_quantity} {ask} {ask_quantity}"),
+            Ok(
+                Event::Quote {
+                    dealer,
+                    bid,
+                    bid_quantity,
+                    ask,
+                    ask_quantity,
+                },
+            ) => write!(
+                f,
+                "{place} Q {dealer} {bid} {bid_quantity} {ask} {ask_quantity}"
+            ),
             Ok(Event::Withdraw { dealer }) => write!(f, "{place} W {dealer}"),
             Ok(Event::Bell) => write!(f, "{place} B"),
-            Ok(Event::Order {
-                side: Side::Buy,
-                price,
-                quantity,
-            }) => write!(f, "{place} O B {price} {quantity}"),
-            Ok(Event::Order {
-                side: Side::Sell,
-                price,
-                quantity,
-            }) => write!(f, "{place} O S {price} {quantity}"),
+            Ok(
+                Event::Order {
+                    side: Side::Buy,
+                    price,
+                    quantity,
+                },
+            ) => write!(f, "{place} O B {price} {quantity}"),
+            Ok(
+                Event::Order {
+                    side: Side::Sell,
+                    price,
+                    quantity,
+                },
+            ) => write!(f, "{place} O S {price} {quantity}"),
             Ok(Event::Cancel { number, amount }) => write!(f, "{place} C {number} {amount}"),
             Ok(Event::Click { dealer, number }) => write!(f, "{place} K {dealer} {number}"),
             Ok(Event::Close) => write!(f, "{place} E"),
