@@ -1,5 +1,6 @@
 // What each record of an event file says, a line each.
 ghost use mathlib.Core.Path.{_≡_};
+ghost use mathlib.Core.List.{[]};
 ghost use Rattle.std.specs.Of.Vec.{vec-items};
 ghost use Rattle.std.specs.Vec.{made};
 ghost use Rattle.std.specs.declared.option.Option.the-variants.{Some};
@@ -19,6 +20,18 @@ use std::fmt;
 pub struct Line {
     pub place: usize,
     pub said: Result<Event, Malformed>,
+}
+
+impl Line {
+    // The line of the bytes at a place.
+    fn of(place: usize, bytes: &[u8]) -> Line
+        ensures { λ r. ⌜ LineOf place (now (bytes .entry)) r ⌝ }
+    {
+        Line {
+            place,
+            said: read_event(bytes),
+        }
+    }
 }
 
 pub impl fmt::Display for Line as LineDisplay {
@@ -77,17 +90,22 @@ pub impl fmt::Display for Line as LineDisplay {
     }
 }
 
-// The lines of an event file: one for each 24 bytes, and one for what is left over at its end.
+// Fills an empty listing: a line for each 24 bytes of a file, and one for what is left over at its end.
+fn fill(lines: &mut Vec<Line>, file: &[u8]) -> Result<(), AllocError>
+    requires { ⌜ vec-items (now lines) ≡ [] ⌝ }
+    ensures { λ r. ⌜ made r (λ _. Lists 1 (now (file .entry)) (vec-items (now (lines .exit)))) ⌝ }
+{
+    for piece in file.chunks(RECORD_LENGTH) {
+        lines.push(Line::of(lines.len() + 1, piece))?;
+    }
+    Ok(())
+}
+
+// The lines of an event file.
 pub fn listing(heap: Global, file: &[u8]) -> Result<Vec<Line>, AllocError>
     ensures { λ r. ⌜ made r (λ v. Lists 1 (now (file .entry)) (vec-items v)) ⌝ }
 {
     let mut lines = Vec::new(heap);
-    for piece in file.chunks(RECORD_LENGTH) {
-        let place = lines.len() + 1;
-        lines.push(Line {
-            place,
-            said: read_event(piece),
-        })?;
-    }
+    fill(&mut lines, file)?;
     Ok(lines)
 }

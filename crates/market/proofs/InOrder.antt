@@ -100,5 +100,5 @@ module _ {T : Type 0} (b : T → T → Bool) where
           (λ e. (all-placed (λ z. b y z ≡ true) x ys (decides x y (f .0) e) (o .0), chain-placed x ys (f .1) (o .1)))
 
       -- an entry with a new arrival number, put in its place, leaves the list in order
-      pub ordered-placed : (x : T) (xs : List T) → Fresh arrival x xs → Ordered b xs → Ordered b (placed b x xs)
-      ordered-placed x xs f o = chain-tells (placed b x xs) .1 (chain-placed x xs f (chain-tells xs .0 o))
+      pub ordered-placed : (x : T) (xs zs : List T) → zs ≡ placed b x xs → Fresh arrival x xs → Ordered b xs → Ordered b zs
+      ordered-placed x xs zs e f o = rw e (chain-tells (placed b x xs) .1 (chain-placed x xs f (chain-tells xs .0 o)))

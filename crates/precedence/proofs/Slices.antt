@@ -11,8 +11,9 @@ use Rattle.std.specs.shelf.Lists.{inserted, removed}
 use Rattle.std.specs.declared.option.Option.the-variants.{Some}
 use Rattle.std.proofs.shelf.Tests.{cond-true, cond-false}
 use Rattle.std.proofs.shelf.Lists.{take-more, drop-more, drop-all, append-assoc, take-at, set-at, length-take, length-take-le, length-drop, length-append, take-take, drop-take, drop-drop, getD-take}
-use Rattle.market.specs.Lists.{placed, head}
-use Rattle.market.proofs.InOrder.{length-placed}
+use Rattle.std.specs.shelf.Sorted.{Neighbours}
+use Rattle.market.specs.Lists.{placed, ordered, head}
+use Rattle.market.proofs.InOrder.{not-ordered, all-ordered}
 
 pub head-take : {T : Type 0} (xs : List T) (n : ℕ) (x : T) → 0 < n → 0 < length xs → x ≡ getD xs 0 x → Some x ≡ head (take n xs)
 head-take [] n x h k e = absurd (omega arith)
@@ -35,8 +36,12 @@ shifted xs n at x h k =
     let put = set-at (take at xs) (getD xs at x) (take (n - at) (drop at xs) ++ drop (n + 1) xs) x at (length-take-le at xs (omega arith)) in
     rw (up, put) (simp (take-take at n xs h, front-drop xs n at h, append-assoc))
 
-pub inserted-is : {T : Type 0} (xs ys zs : List T) (n at : ℕ) (x : T) → at ≤ n → n < length xs → ys ≡ paste xs (at + 1) (drop at xs) (n - at) → inserted (take n xs) at x ≡ zs → set ys at x ≡ zs ++ drop (n + 1) xs
-inserted-is xs ys zs n at x h k e f = ap (λ t. set t at x) e ∙ shifted xs n at x h k ∙ ap (λ t. t ++ drop (n + 1) xs) f
+pub inserted-is : {T : Type 0} (xs ys : List T) (n at : ℕ) (x : T) → at ≤ n → n < length xs → ys ≡ paste xs (at + 1) (drop at xs) (n - at) → set ys at x ≡ inserted (take n xs) at x ++ drop (n + 1) xs
+inserted-is xs ys n at x h k e = ap (λ t. set t at x) e ∙ shifted xs n at x h k
+
+pub insert-front : {T : Type 0} (xs ys : List T) (n at : ℕ) (x : T) → at ≤ n → n < length xs → ys ≡ inserted (take n xs) at x ++ drop (n + 1) xs → take (n + 1) ys ≡ inserted (take n xs) at x
+insert-front xs ys n at x h k e =
+    ap (take (n + 1)) e ∙ take-at (inserted (take n xs) at x) (drop (n + 1) xs) (n + 1) (simp (length-append, length-take, length-drop) (omega (arith, length-take at (take n xs), length-drop at (take n xs), length-take n xs)))
 
 -- the places behind `at` moved down by one; the last of them keeps what it had
 pub removed-is : {T : Type 0} (xs ys : List T) (n at : ℕ) → at < n → n ≤ length xs → ys ≡ paste xs at (drop (at + 1) xs) (n - (at + 1)) → ys ≡ removed (take n xs) at ++ drop (n - 1) xs
@@ -82,7 +87,12 @@ module _ {T : Type 0} (b : T → T → Bool) where
       let at-end : placed b x (drop n (take n xs)) ≡ x ∷ drop n (take n xs) = rw (drop-all n (take n xs) (simp length-take (omega arith))) refl in
       ap (λ t. take n (take n xs) ++ t) (sym at-end) ∙ (rw e at p)
 
-  pub insert-front : (xs ys : List T) (n : ℕ) (x : T) → n ≤ length xs → ys ≡ placed b x (take n xs) ++ drop (n + 1) xs → take (n + 1) ys ≡ placed b x (take n xs)
-  insert-front xs ys n x h e =
-      let l : length (placed b x (take n xs)) ≡ n + 1 = length-placed b x (take n xs) ∙ ap (λ m. m + 1) (length-take-le n xs h) in
-      ap (take (n + 1)) e ∙ take-at (placed b x (take n xs)) (drop (n + 1) xs) (n + 1) l
+  -- how neighbours of the first n places tell whether these are in order: the ends of a walk along them
+  pub record Told (entries list : List T) (n : ℕ) : Type 0 where
+    pub breach : (i : ℕ) (x y : T) → 0 < i → i < length entries → x ≡ getD entries (i - 1) x → y ≡ getD entries i y → false ≡ b x y → false ≡ ordered b (take n list)
+    pub through : (i : ℕ) → length entries ≤ i → Neighbours (λ x y. b x y ≡ true) entries i → true ≡ ordered b (take n list)
+
+  pub told : ((x y z : T) → b x y ≡ true → b y z ≡ true → b x z ≡ true) → (list : List T) (n : ℕ) → Told (take (n - 0) list) list n
+  told chains list n =
+      let e : n - 0 ≡ n = omega arith in
+      rw e (record { breach = not-ordered b (take n list); through = all-ordered b chains (take n list) })

@@ -14,16 +14,23 @@ use Rattle.records.specs.Reading.{Reads, Written}
 use Rattle.records.proofs.Format.{Format}
 
 -- two lists that differ at i do not agree past it
-pub apart : (xs ys : List ℕ) (i : ℕ) → (getD xs i 0 ≡ getD ys i 0 → ⊥) → take (i + 1) xs ≡ take (i + 1) ys → ⊥
+apart : (xs ys : List ℕ) (i : ℕ) → (getD xs i 0 ≡ getD ys i 0 → ⊥) → take (i + 1) xs ≡ take (i + 1) ys → ⊥
 apart xs ys i ne e =
     let l : i < i + 1 = omega arith in
     ne (sym (getD-take (i + 1) xs i 0 l) ∙ ap (λ t. getD t i 0) e ∙ getD-take (i + 1) ys i 0 l)
 
-pub agree-more : (xs ys : List ℕ) (i : ℕ) → i < length xs → length xs ≡ length ys → getD xs i 0 ≡ getD ys i 0 → take i xs ≡ take i ys → take (i + 1) xs ≡ take (i + 1) ys
-agree-more xs ys i l e h a = take-more-same xs ys i 0 l (omega arith) a h
+-- how two lists of one length compare along a walk from their front
+pub record Compared (xs ys : List ℕ) : Type 0 where
+  pub differ : (i : ℕ) → (getD xs i 0 ≡ getD ys i 0 → ⊥) → take (i + 1) xs ≡ take (i + 1) ys → ⊥
+  pub more : (i : ℕ) → i < length xs → getD xs i 0 ≡ getD ys i 0 → take i xs ≡ take i ys → take (i + 1) xs ≡ take (i + 1) ys
+  pub through : (i : ℕ) → length xs ≤ i → take i xs ≡ take i ys → xs ≡ ys
 
-pub agree-all : (xs ys : List ℕ) (i : ℕ) → length xs ≤ i → length xs ≡ length ys → take i xs ≡ take i ys → xs ≡ ys
-agree-all xs ys i l e a = sym (take-all i xs l) ∙ a ∙ take-all i ys (omega arith)
+pub compared : (xs ys : List ℕ) → length xs ≡ length ys → Compared xs ys
+compared xs ys e = record {
+  differ = apart xs ys;
+  more = λ i l h a. take-more-same xs ys i 0 l (omega arith) a h;
+  through = λ i l a. sym (take-all i xs l) ∙ a ∙ take-all i ys (omega arith);
+}
 
 -- a record is its first four bytes and the rest
 pub whole : (xs w : List ℕ) (h : Head) → 4 ≤ length xs → h .kind ≡ getD xs 0 0 → h .side ≡ getD xs 1 0 → h .dealer ≡ getD xs 2 0 → h .zero ≡ getD xs 3 0 → take (length xs - 4) (drop 4 xs) ≡ words-of w → xs ≡ parts-of h w

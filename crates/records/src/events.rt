@@ -5,6 +5,7 @@ ghost use Rattle.records.specs.Reading.{Answered, Written};
 ghost use Rattle.records.specs.Parts.{Outlined};
 ghost use Rattle.records.specs.Forms.{event-form};
 use crate::Malformed;
+use crate::RECORD_LENGTH;
 use crate::parts::Head;
 use crate::parts::NO_SIDE;
 use crate::parts::Words;
@@ -16,7 +17,7 @@ use crate::parts::side_letter;
 use market::Event;
 
 // The bytes of an event's record, kind by kind.
-fn event_record(event: &Event) -> [u8; 24]
+fn event_record(event: &Event) -> [u8; RECORD_LENGTH]
     ensures bytes { λ r. ⌜ r ≡ event-bytes (now (event .entry)) ⌝ }
     ensures fits { λ _. ⌜ EventFits (now (event .entry)) ⌝ }
 {
@@ -60,7 +61,7 @@ fn event_record(event: &Event) -> [u8; 24]
 }
 
 // The record of an event. It reads back as that event.
-pub fn write_event(event: &Event) -> [u8; 24]
+pub fn write_event(event: &Event) -> [u8; RECORD_LENGTH]
     ensures { λ r. ⌜ Written event-bytes EventFits (now (event .entry)) r ⌝ }
 {
     event_record(event)
@@ -115,11 +116,12 @@ fn outlined_event(head: Head, words: Words) -> Option<Event>
 pub fn read_event(bytes: &[u8]) -> Result<Event, Malformed>
     ensures { λ r. ⌜ Answered event-bytes EventFits (now (bytes .entry)) r ⌝ }
 {
+    let wrong_length = Malformed::Length { found: bytes.len() };
     let [kind, side, dealer, zero, rest @ ..] = bytes else {
-        return Err(Malformed::Length { found: bytes.len() });
+        return Err(wrong_length);
     };
     let Some(words) = five_words(rest) else {
-        return Err(Malformed::Length { found: bytes.len() });
+        return Err(wrong_length);
     };
     let head = Head {
         kind: *kind,

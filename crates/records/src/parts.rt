@@ -7,6 +7,7 @@ ghost use Rattle.std.specs.Options.{Cases as BySome};
 ghost use Rattle.records.specs.Layout.{word-bytes, letter};
 ghost use Rattle.records.specs.Parts.{words-of, words-fit};
 ghost use Rattle.records.specs.Forms.{settled, sided};
+use crate::RECORD_LENGTH;
 use market::Side;
 
 // The first four bytes of a record, before any is judged.
@@ -60,7 +61,7 @@ pub fn side_letter(side: Side) -> u8
 }
 
 // The bytes of a record, from its parts.
-pub fn laid_out(kind: u8, side: u8, dealer: u8, words: Words) -> [u8; 24]
+pub fn laid_out(kind: u8, side: u8, dealer: u8, words: Words) -> [u8; RECORD_LENGTH]
     ensures bytes { λ r. ⌜ r ≡ kind ∷ side ∷ dealer ∷ 0 ∷ words-of words ⌝ }
     ensures fits { λ _. ⌜ words-fit words ⌝ }
 {

@@ -5,6 +5,7 @@ ghost use Rattle.records.specs.Reading.{Answered, Written};
 ghost use Rattle.records.specs.Parts.{Outlined};
 ghost use Rattle.records.specs.Forms.{tape-form};
 use crate::Malformed;
+use crate::RECORD_LENGTH;
 use crate::parts::Head;
 use crate::parts::NO_SIDE;
 use crate::parts::Words;
@@ -17,7 +18,7 @@ use market::TapeRecord;
 use market::Trade;
 
 // The bytes of a tape record, kind by kind.
-fn tape_record(told: &TapeRecord) -> [u8; 24]
+fn tape_record(told: &TapeRecord) -> [u8; RECORD_LENGTH]
     ensures bytes { λ r. ⌜ r ≡ tape-bytes (now (told .entry)) ⌝ }
     ensures fits { λ _. ⌜ TapeFits (now (told .entry)) ⌝ }
 {
@@ -88,7 +89,7 @@ fn tape_record(told: &TapeRecord) -> [u8; 24]
 }
 
 // The bytes of a tape record. They read back as that record.
-pub fn write_tape(told: &TapeRecord) -> [u8; 24]
+pub fn write_tape(told: &TapeRecord) -> [u8; RECORD_LENGTH]
     ensures { λ r. ⌜ Written tape-bytes TapeFits (now (told .entry)) r ⌝ }
 {
     tape_record(told)
@@ -160,11 +161,12 @@ fn outlined_tape(head: Head, words: Words) -> Option<TapeRecord>
 pub fn read_tape(bytes: &[u8]) -> Result<TapeRecord, Malformed>
     ensures { λ r. ⌜ Answered tape-bytes TapeFits (now (bytes .entry)) r ⌝ }
 {
+    let wrong_length = Malformed::Length { found: bytes.len() };
     let [kind, side, dealer, zero, rest @ ..] = bytes else {
-        return Err(Malformed::Length { found: bytes.len() });
+        return Err(wrong_length);
     };
     let Some(words) = five_words(rest) else {
-        return Err(Malformed::Length { found: bytes.len() });
+        return Err(wrong_length);
     };
     let head = Head {
         kind: *kind,

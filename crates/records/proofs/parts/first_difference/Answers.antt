@@ -1,12 +1,6 @@
-use borrow.Author.Needs.{needs}
-use Rattle.records.proofs.Fronts.{apart, agree-more, agree-all}
+use mathlib.Core.Path.{refl}
+use Rattle.records.proofs.Fronts.{compared}
 use Rattle.records.proofs.parts.first_difference.Needs as need
 
-pub returns-then-x-b : need.returns-then-x-b
-returns-then-x-b c = (c .loop-place .inv, search (needs, apart))
-
-pub loop-place-again : need.loop-place-again
-loop-place-again c = search (needs, agree-more)
-
-pub returns : need.returns
-returns c = search (needs, agree-all)
+pub loop-place-holds : need.loop-place-holds
+loop-place-holds c = (refl, compared _ _ (c .pre))

@@ -1,7 +1,7 @@
-use Rattle.market.proofs.InOrder.{ordered-removed}
 use lib.ListN.{take}
+use Rattle.market.proofs.InOrder.{ordered-removed}
 use Rattle.precedence.proofs.Slices.{removed-is, remove-front}
-use Rattle.precedence.proofs.list.remove.Needs as need
+use Rattle.precedence.proofs.list.close_gap.Needs as need
 
 pub returns : need.returns
 returns g c =
