@@ -15,7 +15,13 @@ fn list(rt: &LibcRuntime, path: &str) -> Result<(), AnyError> {
             return Err(error.into());
         }
     };
-    let lines = listing(rt.alloc(), file.as_slice())?;
+    let lines = match listing(rt.alloc(), file.as_slice()) {
+        Ok(lines) => lines,
+        Err(error) => {
+            eprintln!(rt, "console: no memory for the listing of {path}")?;
+            return Err(error.into());
+        }
+    };
     for line in lines.iter() {
         rt.println(line)?;
     }
