@@ -1,5 +1,5 @@
 -- Lists in precedence: what an insertion and a removal keep, and what neighbours tell. Assumes nothing.
-use mathlib.Core.Path.{_≡_, refl, sym, _∙_}
+use mathlib.Core.Path.{_≡_, refl, sym, ap, _∙_}
 use mathlib.Core.Bool.{Bool, true, false}
 use mathlib.Core.List.{List, [], _∷_, _++_}
 use Prim.Native.Nat.{ℕ, zero, suc, _+_, _-_, _<_, _≤_}
@@ -11,11 +11,17 @@ use Rattle.std.specs.shelf.Lawful.{all-pass}
 use Rattle.std.specs.shelf.Sorted.{Neighbours}
 use Rattle.std.specs.Orderings.{Decides}
 use Rattle.std.specs.declared.option.Option.{Option}
+use Rattle.std.specs.declared.option.Option.the-variants.{Some}
 use Rattle.std.proofs.shelf.Elements.{all-weaker, all-append, all-take, all-drop}
 use Rattle.std.proofs.shelf.Ways.{decides-and, decides-by-and, same-from-decides}
-use Rattle.std.proofs.shelf.Tests.{cond-both, false≢true}
+use Rattle.std.proofs.shelf.Tests.{cond-both, cond-false, false≢true}
 use Rattle.std.proofs.shelf.Lists.{getD-read}
 use Rattle.market.specs.Lists.{placed, ordered, Ordered, Fresh, head, tail, Leads}
+
+-- the entry at place 0 is the head
+pub head-read : {T : Type 0} (xs : List T) (x : T) → 0 < length xs → x ≡ getD xs 0 x → Some x ≡ head xs
+head-read [] x h e = absurd (omega arith)
+head-read (y ∷ ys) x h e = ap Some e
 
 module _ {T : Type 0} (b : T → T → Bool) where
   -- the test `ordered`, as facts
@@ -55,11 +61,10 @@ module _ {T : Type 0} (b : T → T → Bool) where
   all-placed P x (y ∷ ys) p a =
       cond-both (b x y) (x ∷ y ∷ ys) (y ∷ placed b x ys) (All P) (λ _. (p, a)) (λ _. (a .0, all-placed P x ys p (a .1)))
 
-  pub length-placed : (x : T) (xs : List T) → length (placed b x xs) ≡ length xs + 1
-  length-placed x [] = refl
-  length-placed x (y ∷ ys) =
-      cond-both (b x y) (x ∷ y ∷ ys) (y ∷ placed b x ys) (λ zs. length zs ≡ length (y ∷ ys) + 1)
-      (λ _. omega arith) (λ _. omega (arith, length-placed x ys))
+  -- an entry goes behind all that it does not precede
+  pub placed-past : (x : T) (past rest : List T) → All (λ y. b x y ≡ false) past → placed b x (past ++ rest) ≡ past ++ placed b x rest
+  placed-past x [] rest a = refl
+  placed-past x (y ∷ ys) rest a = rw (cond-false (b x y) _ _ (a .0), placed-past x ys rest (a .1)) refl
 
   -- each entry precedes the next
   pub chain-next : (xs : List T) → Chain xs → Neighbours (λ x y. b x y ≡ true) xs (length xs)

@@ -1,91 +1,67 @@
--- A list in the first places of a slice: what the search, the moves and the writes of an edit come to. Assumes nothing.
+-- A list in the first places of a slice: where a search for a place ends, and what the moves of an edit come to. Assumes nothing.
 use mathlib.Core.Path.{_≡_, refl, sym, ap, _∙_}
 use mathlib.Core.Bool.{Bool, true, false}
 use mathlib.Core.List.{List, [], _∷_, _++_}
-use Prim.Native.Nat.{ℕ, zero, suc, _+_, _-_, _<_, _≤_}
+use Prim.Native.Nat.{ℕ, _+_, _-_, _<_, _≤_}
 use native.Mathlib.Omega.{arith}
-use native.Mathlib.Numerals.{add-one}
+use borrow.Author.Needs.{needs}
 use lib.ListN.{length, take, drop, set, getD}
 use lib.Seq.{paste}
-use Rattle.std.specs.shelf.Lists.{inserted, removed}
-use Rattle.std.specs.declared.option.Option.the-variants.{Some}
-use Rattle.std.proofs.shelf.Tests.{cond-true, cond-false}
-use Rattle.std.proofs.shelf.Lists.{take-more, drop-more, drop-all, append-assoc, take-at, set-at, length-take, length-take-le, length-drop, length-append, take-take, drop-take, drop-drop, getD-take}
+use Rattle.std.specs.shelf.Lists.{All, inserted, removed}
 use Rattle.std.specs.shelf.Sorted.{Neighbours}
-use Rattle.market.specs.Lists.{placed, ordered, head}
-use Rattle.market.proofs.InOrder.{not-ordered, all-ordered}
-
-pub head-take : {T : Type 0} (xs : List T) (n : ℕ) (x : T) → 0 < n → 0 < length xs → x ≡ getD xs 0 x → Some x ≡ head (take n xs)
-head-take [] n x h k e = absurd (omega arith)
-head-take (y ∷ ys) zero x h k e = absurd (omega arith)
-head-take (y ∷ ys) (suc n) x h k e = ap Some e
-
--- what the slice has at i, its first n places have there too
-front-read : {T : Type 0} (xs : List T) (n i : ℕ) (y : T) → i < n → n ≤ length xs → y ≡ getD xs i y → (i < length (take n xs)) × (y ≡ getD (take n xs) i y)
-front-read xs n i y h k e = (simp length-take (omega arith), e ∙ sym (getD-take n xs i y h))
-
-front-drop : {T : Type 0} (xs : List T) (n at : ℕ) → at ≤ n → drop at (take n xs) ≡ take (n - at) (drop at xs)
-front-drop xs n at h = let e : at + (n - at) ≡ n = omega arith in rw e at (drop-take at (n - at) xs)
+use Rattle.std.proofs.shelf.Elements.{all-more}
+use Rattle.std.proofs.shelf.Tests.{cond-true, cases-eq}
+use Rattle.std.proofs.shelf.Lists.{places, same-lists, drop-more, drop-all, take-append-drop, take-at, take-take, length-take, getD-take, getD-set-same}
+use Rattle.market.specs.Lists.{placed, ordered}
+use Rattle.market.proofs.InOrder.{placed-past, not-ordered, all-ordered}
 
 -- the places from `at` on moved up by one, and x put at `at`
-shifted : {T : Type 0} (xs : List T) (n at : ℕ) (x : T) → at ≤ n → n < length xs → set (paste xs (at + 1) (drop at xs) (n - at)) at x ≡ inserted (take n xs) at x ++ drop (n + 1) xs
-shifted xs n at x h k =
-    let l : at < length xs = omega arith in
-    let e : at + 1 + (n - at) ≡ n + 1 = omega arith in
-    let up : paste xs (at + 1) (drop at xs) (n - at) ≡ take at xs ++ (getD xs at x ∷ (take (n - at) (drop at xs) ++ drop (n + 1) xs)) = simp (e, take-more xs at x l, append-assoc) in
-    let put = set-at (take at xs) (getD xs at x) (take (n - at) (drop at xs) ++ drop (n + 1) xs) x at (length-take-le at xs (omega arith)) in
-    rw (up, put) (simp (take-take at n xs h, front-drop xs n at h, append-assoc))
-
-pub inserted-is : {T : Type 0} (xs ys : List T) (n at : ℕ) (x : T) → at ≤ n → n < length xs → ys ≡ paste xs (at + 1) (drop at xs) (n - at) → set ys at x ≡ inserted (take n xs) at x ++ drop (n + 1) xs
-inserted-is xs ys n at x h k e = ap (λ t. set t at x) e ∙ shifted xs n at x h k
-
-pub insert-front : {T : Type 0} (xs ys : List T) (n at : ℕ) (x : T) → at ≤ n → n < length xs → ys ≡ inserted (take n xs) at x ++ drop (n + 1) xs → take (n + 1) ys ≡ inserted (take n xs) at x
-insert-front xs ys n at x h k e =
-    ap (take (n + 1)) e ∙ take-at (inserted (take n xs) at x) (drop (n + 1) xs) (n + 1) (simp (length-append, length-take, length-drop) (omega (arith, length-take at (take n xs), length-drop at (take n xs), length-take n xs)))
+pub put-is : {T : Type 0} (xs ys : List T) (n at : ℕ) (x : T) → at ≤ n → n < length xs → ys ≡ paste xs (at + 1) (drop at xs) (n - at) → set ys at x ≡ inserted (take n xs) at x ++ drop (n + 1) xs
+put-is xs ys n at x h k e =
+    rw e (same-lists _ _ (search (needs, places)) (λ i d l. let c = cases-eq i at in grind (arith, places, getD-set-same, c)))
 
 -- the places behind `at` moved down by one; the last of them keeps what it had
-pub removed-is : {T : Type 0} (xs ys : List T) (n at : ℕ) → at < n → n ≤ length xs → ys ≡ paste xs at (drop (at + 1) xs) (n - (at + 1)) → ys ≡ removed (take n xs) at ++ drop (n - 1) xs
-removed-is xs ys n at h k e =
-    let s : at + (n - (at + 1)) ≡ n - 1 = omega arith in
-    let l : at ≤ n = omega arith in
-    e ∙ rw (s, ← add-one at) (simp (take-take at n xs l, front-drop xs n (at + 1) (omega arith), append-assoc))
+pub gap-closed : {T : Type 0} (xs ys : List T) (n at : ℕ) → at < n → n ≤ length xs → ys ≡ paste xs at (drop (at + 1) xs) (n - (at + 1)) → ys ≡ removed (take n xs) at ++ drop (n - 1) xs
+gap-closed xs ys n at h k e = rw e (same-lists _ _ (search (needs, places)) (λ i d l. grind (arith, places)))
 
-pub remove-front : {T : Type 0} (xs ys : List T) (n at : ℕ) → at < n → n ≤ length xs → ys ≡ removed (take n xs) at ++ drop (n - 1) xs → take (n - 1) ys ≡ removed (take n xs) at
-remove-front xs ys n at h k e = ap (take (n - 1)) e ∙ take-at (removed (take n xs) at) (drop (n - 1) xs) (n - 1) (simp (length-append, length-take, length-drop) (omega arith))
+-- the list alone, where the slice is the list and what stands behind it
+pub list-alone : {T : Type 0} (ys list behind : List T) (n : ℕ) → length list ≡ n → ys ≡ list ++ behind → take n ys ≡ list
+list-alone ys list behind n l e = ap (take n) e ∙ take-at list behind n l
+
+pub length-inserted : {T : Type 0} (xs : List T) (n at : ℕ) (x : T) → at ≤ n → n < length xs → length (inserted (take n xs) at x) ≡ n + 1
+length-inserted xs n at x h k = search (needs, places)
+
+pub length-removed : {T : Type 0} (xs : List T) (n at : ℕ) → at < n → n ≤ length xs → length (removed (take n xs) at) ≡ n - 1
+length-removed xs n at h k = search (needs, places)
 
 module _ {T : Type 0} (b : T → T → Bool) where
-  -- a search from the front has passed i entries, none of which x precedes
+  -- x precedes none of the first i entries
   abbrev pub Passed : T → List T → ℕ → Type 0
-  Passed x xs i = take i xs ++ placed b x (drop i xs) ≡ placed b x xs
+  Passed x xs i = All (λ y. b x y ≡ false) (take i xs)
 
-  passed-one : (x : T) (xs : List T) (i : ℕ) (y : T) → i < length xs → y ≡ getD xs i y → b x y ≡ false → take i xs ++ placed b x (drop i xs) ≡ take (i + 1) xs ++ placed b x (drop (i + 1) xs)
-  passed-one x xs i y h e later =
-      let here = drop-more xs i y h in
-      let more = take-more xs i y h in
-      let passed = cond-false (b x y) (x ∷ y ∷ drop (i + 1) xs) (y ∷ placed b x (drop (i + 1) xs)) later in
-      rw (here, more, ← e, passed, append-assoc) refl
+  pub passed-more : (x : T) (xs : List T) (i : ℕ) (y : T) → i < length xs → y ≡ getD xs i y → false ≡ b x y → Passed x xs i → Passed x xs (i + 1)
+  passed-more x xs i y h e later p = all-more (λ z. b x z ≡ false) xs i y h p (rw e at (sym later))
 
-  pub passed-more : (x : T) (xs : List T) (n i : ℕ) (y : T) → i < n → n ≤ length xs → y ≡ getD xs i y → false ≡ b x y → Passed x (take n xs) i → Passed x (take n xs) (i + 1)
-  passed-more x xs n i y h k e later p =
-      let r = front-read xs n i y h k e in
-      sym (passed-one x (take n xs) i y (r .0) (r .1) (sym later)) ∙ p
+  -- the search passed i entries of n, and what is left of them begins with x once x is put there
+  stops : (x : T) (xs : List T) (n i : ℕ) → i ≤ n → Passed x xs i → placed b x (drop i (take n xs)) ≡ x ∷ drop i (take n xs) → inserted (take n xs) i x ≡ placed b x (take n xs)
+  stops x xs n i h p s =
+      let front : take i (take n xs) ≡ take i xs = take-take i n xs h in
+      let past : All (λ y. b x y ≡ false) (take i (take n xs)) = rw front p in
+      sym (ap (placed b x) (sym (take-append-drop i (take n xs))) ∙ placed-past b x (take i (take n xs)) (drop i (take n xs)) past ∙ ap (λ t. take i (take n xs) ++ t) s)
 
-  stopped : (x : T) (xs : List T) (i : ℕ) (y : T) → i < length xs → y ≡ getD xs i y → b x y ≡ true → placed b x (drop i xs) ≡ x ∷ drop i xs
-  stopped x xs i y h e found =
-      let here = drop-more xs i y h in
-      let stops = cond-true (b x y) (x ∷ y ∷ drop (i + 1) xs) (y ∷ placed b x (drop (i + 1) xs)) found in
-      rw (here, ← e, stops) refl
-
-  pub passed-here : (x : T) (xs : List T) (n i : ℕ) (y : T) → i < n → n ≤ length xs → y ≡ getD xs i y → true ≡ b x y → Passed x (take n xs) i → inserted (take n xs) i x ≡ placed b x (take n xs)
+  -- at an entry that x precedes
+  pub passed-here : (x : T) (xs : List T) (n i : ℕ) (y : T) → i < n → n ≤ length xs → y ≡ getD xs i y → true ≡ b x y → Passed x xs i → inserted (take n xs) i x ≡ placed b x (take n xs)
   passed-here x xs n i y h k e found p =
-      let r = front-read xs n i y h k e in
-      ap (λ t. take i (take n xs) ++ t) (sym (stopped x (take n xs) i y (r .0) (r .1) (sym found))) ∙ p
+      let l : i < length (take n xs) = simp length-take (omega arith) in
+      let here : drop i (take n xs) ≡ y ∷ drop (i + 1) (take n xs) = drop-more (take n xs) i y l ∙ ap (λ z. z ∷ drop (i + 1) (take n xs)) (getD-take n xs i y h ∙ sym e) in
+      stops x xs n i (omega arith) p (rw here (cond-true (b x y) _ _ (sym found)))
 
-  pub passed-all : (x : T) (xs : List T) (n i : ℕ) → n ≤ i → i ≤ n → Passed x (take n xs) i → inserted (take n xs) n x ≡ placed b x (take n xs)
+  -- at the end
+  pub passed-all : (x : T) (xs : List T) (n i : ℕ) → n ≤ i → i ≤ n → Passed x xs i → inserted (take n xs) n x ≡ placed b x (take n xs)
   passed-all x xs n i h k p =
       let e : i ≡ n = omega arith in
-      let at-end : placed b x (drop n (take n xs)) ≡ x ∷ drop n (take n xs) = rw (drop-all n (take n xs) (simp length-take (omega arith))) refl in
-      ap (λ t. take n (take n xs) ++ t) (sym at-end) ∙ (rw e at p)
+      let none : drop n (take n xs) ≡ [] = drop-all n (take n xs) (simp length-take (omega arith)) in
+      stops x xs n n (omega arith) (rw e at p) (rw none refl)
 
   -- how neighbours of the first n places tell whether these are in order: the ends of a walk along them
   pub record Told (entries list : List T) (n : ℕ) : Type 0 where

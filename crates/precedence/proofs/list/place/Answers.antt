@@ -18,7 +18,8 @@ returns-then-precedes g c =
     record { within = omega arith; at = is; ordered = ordered-placed _ (g .T·Ranked·met .transitive r s) _ (g .T·Ranked·met .decides r s) x xs _ is }
 
 pub loop-i-again : need.loop-i-again
-loop-i-again g c = search (needs, passed-more)
+loop-i-again g c =
+    passed-more (g .T·Ranked .before (c .args .rule .now) (c .args .side)) (c .args .item .now) (c .args .list .now) (c .loop-i .i) _ (omega arith) (c .index-list-i .is) (c .if-precedes .ensures tt) (c .loop-i .inv)
 
 pub returns : need.returns
 returns g c =
