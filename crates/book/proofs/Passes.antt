@@ -45,50 +45,50 @@ pub passing : {T : Type 0} (p : T → Bool) (xs : List T) (n : ℕ) → n ≤ le
 passing p xs n within =
     (refl, walk (list_all p) (λ x. x) (λ x _. p x) refl (λ x ys. refl) xs n 0 within (λ _ x. true ≡ p x) (λ _ x. false ≡ p x) (λ i x y. y) (λ i x y. y))
 
-module _ {T : Type 0} (number_of_lem : T → ℕ) where
+module _ {T : Type 0} (number_of : T → ℕ) where
   -- ---- no entry has the number m
 
   abbrev differs : ℕ → T → Bool
-  differs m x = not (eqb m (number_of_lem x))
+  differs m x = not (eqb m (number_of x))
 
   abbrev pub Missing : (m : ℕ) (xs : List T) (n from i : ℕ) → Type 0
-  Missing m xs n from i = Left (list_all (differs m)) xs n from i × Walk (list_all (differs m)) xs n from (λ x. x) (λ _ x. number_of_lem x ≡ m → ⊥) (λ _ x. number_of_lem x ≡ m)
+  Missing m xs n from i = Left (list_all (differs m)) xs n from i × Walk (list_all (differs m)) xs n from (λ x. x) (λ _ x. number_of x ≡ m → ⊥) (λ _ x. number_of x ≡ m)
 
   pub missing : (m : ℕ) (xs : List T) (n from : ℕ) → n ≤ length xs → Missing m xs n from from
   missing m xs n from within =
-      (refl, walk (list_all (differs m)) (λ x. x) (λ x _. differs m x) refl (λ x ys. refl) xs n from within (λ _ x. number_of_lem x ≡ m → ⊥) (λ _ x. number_of_lem x ≡ m) (λ i x y. sym (ap not (ne_eqb m (number_of_lem x) (λ e. y (sym e))))) (λ i x y. sym (ap not (eq-eqb m (number_of_lem x) (sym y)))))
+      (refl, walk (list_all (differs m)) (λ x. x) (λ x _. differs m x) refl (λ x ys. refl) xs n from within (λ _ x. number_of x ≡ m → ⊥) (λ _ x. number_of x ≡ m) (λ i x y. sym (ap not (ne_eqb m (number_of x) (λ e. y (sym e))))) (λ i x y. sym (ap not (eq-eqb m (number_of x) (sym y)))))
 
   -- ---- no two entries have the same number
 
   abbrev pub Parting : (xs : List T) (n i : ℕ) → Type 0
   Parting xs n i =
-      Left (apart number_of_lem) xs n 0 i × Walk (apart number_of_lem) xs n 0 number_of_lem (λ i k. true ≡ no_number_of number_of_lem k xs (i + 1) n) (λ i k. false ≡ no_number_of number_of_lem k xs (i + 1) n)
+      Left (apart number_of) xs n 0 i × Walk (apart number_of) xs n 0 number_of (λ i k. true ≡ no_number_of number_of k xs (i + 1) n) (λ i k. false ≡ no_number_of number_of k xs (i + 1) n)
 
   pub parting : (xs : List T) (n : ℕ) → n ≤ length xs → Parting xs n 0
   parting xs n within =
-      (refl, walk (apart number_of_lem) number_of_lem (λ k ys. list_all (differs k) ys) refl (λ x ys. refl) xs n 0 within (λ i k. true ≡ no_number_of number_of_lem k xs (i + 1) n) (λ i k. false ≡ no_number_of number_of_lem k xs (i + 1) n) (λ i k y. y) (λ i k y. y))
+      (refl, walk (apart number_of) number_of (λ k ys. list_all (differs k) ys) refl (λ x ys. refl) xs n 0 within (λ i k. true ≡ no_number_of number_of k xs (i + 1) n) (λ i k. false ≡ no_number_of number_of k xs (i + 1) n) (λ i k y. y) (λ i k y. y))
 
   -- ---- no number of one list stands in another
 
   abbrev pub disjoint : (ys xs : List T) → Bool
-  disjoint ys xs = list_all (λ x. list_all (differs (number_of_lem x)) ys) xs
+  disjoint ys xs = list_all (λ x. list_all (differs (number_of x)) ys) xs
 
   -- with what that tells of both lists together
   abbrev pub Disjoining : (xs : List T) (n : ℕ) (ys : List T) (m i : ℕ) → Type 0
   Disjoining xs n ys m i =
-      Left (disjoint (take m ys)) xs n 0 i × Walk (disjoint (take m ys)) xs n 0 number_of_lem (λ _ k. true ≡ no_number_of number_of_lem k ys 0 m) (λ _ k. false ≡ no_number_of number_of_lem k ys 0 m) × (apart number_of_lem (take n xs ++ take m ys) ≡ (disjoint (take m ys) (take n xs) && (apart number_of_lem (take n xs) && apart number_of_lem (take m ys))))
+      Left (disjoint (take m ys)) xs n 0 i × Walk (disjoint (take m ys)) xs n 0 number_of (λ _ k. true ≡ no_number_of number_of k ys 0 m) (λ _ k. false ≡ no_number_of number_of k ys 0 m) × (apart number_of (take n xs ++ take m ys) ≡ (disjoint (take m ys) (take n xs) && (apart number_of (take n xs) && apart number_of (take m ys))))
 
   passes_both : (p : T → Bool) (xs ys : List T) → list_all p (xs ++ ys) ≡ (list_all p xs && list_all p ys)
   passes_both p [] ys = refl
   passes_both p (x ∷ xs) ys = let h = passes_both p xs ys in grind (arith, h)
 
-  apart_both : (xs ys : List T) → apart number_of_lem (xs ++ ys) ≡ (disjoint ys xs && (apart number_of_lem xs && apart number_of_lem ys))
+  apart_both : (xs ys : List T) → apart number_of (xs ++ ys) ≡ (disjoint ys xs && (apart number_of xs && apart number_of ys))
   apart_both [] ys = refl
   apart_both (x ∷ xs) ys =
       let h = apart_both xs ys in
-      let e = passes_both (differs (number_of_lem x)) xs ys in
+      let e = passes_both (differs (number_of x)) xs ys in
       grind (arith, h, e)
 
   pub disjoining : (xs : List T) (n : ℕ) (ys : List T) (m : ℕ) → n ≤ length xs → Disjoining xs n ys m 0
   disjoining xs n ys m within =
-      (refl, walk (disjoint (take m ys)) number_of_lem (λ k _. list_all (differs k) (take m ys)) refl (λ x zs. refl) xs n 0 within (λ _ k. true ≡ no_number_of number_of_lem k ys 0 m) (λ _ k. false ≡ no_number_of number_of_lem k ys 0 m) (λ i k y. y) (λ i k y. y), apart_both (take n xs) (take m ys))
+      (refl, walk (disjoint (take m ys)) number_of (λ k _. list_all (differs k) (take m ys)) refl (λ x zs. refl) xs n 0 within (λ _ k. true ≡ no_number_of number_of k ys 0 m) (λ _ k. false ≡ no_number_of number_of k ys 0 m) (λ i k y. y) (λ i k y. y), apart_both (take n xs) (take m ys))

@@ -1,7 +1,7 @@
 -- A dealer's quote in a list: where a search for it stands, and what its removal leaves. Assumes nothing.
+use Rattle.market.specs.Lists.{is_distinct}
 use Rattle.std.proofs.Common.{◌≡◌, ℕ, zero, suc, ◌+◌, ◌<◌, ◌≤◌, Bool, true, false, not, eqb, List, [], ◌∷◌, ◌++◌, length, get_or, take, drop, is_some, Some, None, filter, sym, refl, ap, ◌∙◌, add-one}
 use Rattle.std.specs.List.{remove, list_all}
-use Rattle.std.specs.Map.Invariant.{is-distinct}
 use Rattle.std.proofs.lemmas.List.{append_assoc, append-nil, length-take-le, get_or-take, drop_more, drop_all, take_more, take_all}
 use Rattle.std.proofs.lemmas.Bool.{and_parts, cond-true, cond-false, eq-eqb, ne_eqb, eqb-false, not-true, not_from_false}
 use Rattle.market.specs.declared.Quote.{Quote}
@@ -14,7 +14,7 @@ kept_all p (x ∷ xs) h =
     let b = and_parts (p x) (list_all p xs) h in
     cond-true (p x) _ _ b.0 ∙ ap (λ ys. x ∷ ys) (kept_all p xs b.1)
 
-pub distinct_drop : {X : Type 0} (e : X → X → Bool) (i : ℕ) (xs : List X) → is-distinct e xs ≡ true → is-distinct e (drop i xs) ≡ true
+pub distinct_drop : {X : Type 0} (e : X → X → Bool) (i : ℕ) (xs : List X) → is_distinct e xs ≡ true → is_distinct e (drop i xs) ≡ true
 distinct_drop e zero xs h = h
 distinct_drop e (suc i) [] h = refl
 distinct_drop e (suc i) (x ∷ xs) h = distinct_drop e i xs (and_parts _ _ h).1
@@ -64,7 +64,7 @@ module _ (d : ℕ) (xs : List Quote) (n : ℕ) (short : n ≤ length xs) where
       let x = get_or xs i e in
       let at = here i e h in
       let behind = drop (i + 1) (take n xs) in
-      let tested : is-distinct (λ (y z : Quote). eqb y.dealer z.dealer) (x ∷ behind) ≡ true = rw at at (distinct_drop (λ (y z : Quote). eqb y.dealer z.dealer) i (take n xs) a) in
+      let tested : is_distinct (λ (y z : Quote). eqb y.dealer z.dealer) (x ∷ behind) ≡ true = rw at at (distinct_drop (λ (y z : Quote). eqb y.dealer z.dealer) i (take n xs) a) in
       let rest_kept : without d behind ≡ behind = kept_all _ behind (others_pass x d own behind (and_parts _ _ tested).0) in
       let gone : without d (drop i (take n xs)) ≡ behind = ap (without d) at ∙ cond-false (not (eqb x.dealer d)) _ _ (ap not (eq-eqb _ _ own)) ∙ rest_kept in
       let s : drop (suc i) (take n xs) ≡ behind = ap (λ k. drop k (take n xs)) (sym (add-one i)) in

@@ -44,4 +44,4 @@ pub record CountsFit (c : Counts) (p : Places) : Type 0 where
 
 -- no entry from one place to another has the number n
 abbrev pub no_number_of : {T : Type 0} → (T → ℕ) → ℕ → List T → (from to : ℕ) → Bool
-no_number_of number_of_lem n xs from to = list_all (λ x. not (n == number_of_lem x)) (drop from (take to xs))
+no_number_of number_of n xs from to = list_all (λ x. not (n == number_of x)) (drop from (take to xs))

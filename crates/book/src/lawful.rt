@@ -89,7 +89,7 @@ fn each_order_is_lawful(taped: u32, list: &[Order], count: usize) -> bool
 // Whether none of the entries from one place on has this number.
 fn is_new<T: Numbered>(list: &[T], from: usize, count: usize, n: u32) -> bool
     requires { (from ≤ count) × (count ≤ length list.now) }
-    ensures { result ≡ no_number_of number n list.now from count }
+    ensures { result ≡ no_number_of T.number n list.now from count }
 {
     for i in from..count {
         if list[i].number() == n {
@@ -102,7 +102,7 @@ fn is_new<T: Numbered>(list: &[T], from: usize, count: usize, n: u32) -> bool
 // Whether no two entries of a list have the same number.
 fn are_apart<T: Numbered>(list: &[T], count: usize) -> bool
     requires { count ≤ length list.now }
-    ensures { result ≡ apart number (take count list.now) }
+    ensures { result ≡ apart T.number (take count list.now) }
 {
     for i in 0..count {
         if !is_new(list, i + 1, count, list[i].number()) {
@@ -116,8 +116,8 @@ fn are_apart<T: Numbered>(list: &[T], count: usize) -> bool
 fn are_disjoint<T: Numbered>(list: &[T], count: usize, other: &[T], others: usize) -> bool
     requires list { count ≤ length list.now }
     requires other { others ≤ length other.now }
-    ensures disjoint { result ≡ list_all (λ (x : T). no_number_of number (number x) other.now 0 others) (take count list.now) }
-    ensures apart { apart number (take count list.now ++ take others other.now) ≡ (result && (apart number (take count list.now) && apart number (take others other.now))) }
+    ensures disjoint { result ≡ list_all (λ (x : T). no_number_of T.number (T.number x) other.now 0 others) (take count list.now) }
+    ensures apart { apart T.number (take count list.now ++ take others other.now) ≡ (result && (apart T.number (take count list.now) && apart T.number (take others other.now))) }
 {
     for i in 0..count {
         if !is_new(other, 0, others, list[i].number()) {
@@ -148,7 +148,7 @@ fn quotes_are_lawful<R: Rule>(
     count: usize,
 ) -> bool
     requires { count ≤ length list.now }
-    ensures { result ≡ lawful_quotes (rule_of (quotes rule.now) (orders rule.now)) side dealers taped (take count list.now) }
+    ensures { result ≡ lawful_quotes (rule_of (R.quotes rule.now) (R.orders rule.now)) side dealers taped (take count list.now) }
 {
     each_quote_is_lawful(dealers, taped, list, count)
         && are_apart(list, count)
@@ -164,7 +164,7 @@ fn orders_are_lawful<R: Rule>(
     count: usize,
 ) -> bool
     requires { count ≤ length list.now }
-    ensures { result ≡ lawful_orders (rule_of (quotes rule.now) (orders rule.now)) side taped (take count list.now) }
+    ensures { result ≡ lawful_orders (rule_of (R.quotes rule.now) (R.orders rule.now)) side taped (take count list.now) }
 {
     each_order_is_lawful(taped, list, count) && in_order(rule, side, list, count)
 }
@@ -185,7 +185,7 @@ fn same_places(places: &Places, memory: &Memory) -> bool
 fn lists_are_lawful<R: Rule>(rule: &R, dealers: u8, counts: &Counts, memory: &Memory) -> bool
     requires fit { CountsFit counts.now (places_of memory.now) }
     requires small { counts.now.tape ≤ 65536 }
-    ensures { result ≡ lawful_lists (rule_of (quotes rule.now) (orders rule.now)) dealers (length (take counts.now.tape memory.now.tape.now)) (lists_of counts.now memory.now) }
+    ensures { result ≡ lawful_lists (rule_of (R.quotes rule.now) (R.orders rule.now)) dealers (length (take counts.now.tape memory.now.tape.now)) (lists_of counts.now memory.now) }
 {
     let taped = counts.tape as u32;
     quotes_are_lawful(rule, Side::Buy, dealers, taped, memory.bids, counts.bids)
@@ -206,7 +206,7 @@ pub fn is_lawful<R: Rule>(
 ) -> bool
     requires fit { CountsFit counts.now places.now }
     requires small { places.now.tape ≤ 65536 }
-    ensures { result ≡ (same_sizes (sizes_of places.now) (sizes_of (places_of memory.now)) && lawful_lists (rule_of (quotes rule.now) (orders rule.now)) dealers (length (take counts.now.tape memory.now.tape.now)) (lists_of counts.now memory.now)) }
+    ensures { result ≡ (same_sizes (sizes_of places.now) (sizes_of (places_of memory.now)) && lawful_lists (rule_of (R.quotes rule.now) (R.orders rule.now)) dealers (length (take counts.now.tape memory.now.tape.now)) (lists_of counts.now memory.now)) }
 {
     same_places(places, memory) && lists_are_lawful(rule, dealers, counts, memory)
 }

@@ -75,7 +75,7 @@ pub fn replace<R: Rule>(
     requires apart { apart (λ (q : QuoteOf). q.dealer) (take count list.old) ≡ true }
     requires room { length (without quote.dealer (take count list.old)) < length list.old }
     ensures count { result ≡ length (without quote.dealer (take count list.old)) + 1 }
-    ensures list { take result list.new ≡ placed (quote_before (quotes rule.now) side) quote (without quote.dealer (take count list.old)) }
+    ensures list { take result list.new ≡ placed (quote_before (R.quotes rule.now) side) quote (without quote.dealer (take count list.old)) }
 {
     let rest = withdraw(list, count, quote.dealer);
     insert(rule, side, list, rest, quote);

@@ -1,4 +1,6 @@
 // Tests of the other crates, in tables.
+#![tactic(auto)]
+
 #[cfg(test)]
 mod event_records;
 #[cfg(test)]

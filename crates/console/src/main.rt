@@ -1,4 +1,6 @@
 // Lists an event file, a line for each record: `console FILE`.
+#![tactic(auto)]
+
 use anyhow::anyhow;
 use listing::listing;
 use std::{env, fs};

@@ -24,7 +24,7 @@ fn before_bell<R: Rule>(
     memory: &mut Memory,
     event: &Event,
 ) -> (Session, Outcome)
-    ensures { Stepped (rule_of (quotes rule.now) (orders rule.now)) event.now (phase.Early session) result.0 memory.old memory.new result.1 }
+    ensures { Stepped (rule_of (R.quotes rule.now) (R.orders rule.now)) event.now (phase.Early session) result.0 memory.old memory.new result.1 }
 {
     match *event {
         Event::Clock { time } => {
@@ -61,7 +61,7 @@ fn before_bell<R: Rule>(
 }
 
 fn ring<R: Rule>(session: PreOpen, rule: &R, memory: &mut Memory) -> (Session, Outcome)
-    ensures { Stepped (rule_of (quotes rule.now) (orders rule.now)) Event.Bell (phase.Early session) result.0 memory.old memory.new result.1 }
+    ensures { Stepped (rule_of (R.quotes rule.now) (R.orders rule.now)) Event.Bell (phase.Early session) result.0 memory.old memory.new result.1 }
 {
     match session.ring(rule, memory) {
         Ok(open) => (Session::Trading(open), Ok(Answer::Rung)),
@@ -78,7 +78,7 @@ fn after_bell<R: Rule>(
     memory: &mut Memory,
     event: &Event,
 ) -> (Session, Outcome)
-    ensures { Stepped (rule_of (quotes rule.now) (orders rule.now)) event.now (phase.Trading session) result.0 memory.old memory.new result.1 }
+    ensures { Stepped (rule_of (R.quotes rule.now) (R.orders rule.now)) event.now (phase.Trading session) result.0 memory.old memory.new result.1 }
 {
     match *event {
         Event::Clock { time } => {
@@ -102,7 +102,7 @@ fn after_bell<R: Rule>(
 impl Session {
     // Takes one event, and gives the session after it and what came of it. An event that the phase does not have is out of turn.
     pub fn take<R: Rule>(self, rule: &R, memory: &mut Memory, event: &Event) -> (Session, Outcome)
-        ensures { Stepped (rule_of (quotes rule.now) (orders rule.now)) event.now self result.0 memory.old memory.new result.1 }
+        ensures { Stepped (rule_of (R.quotes rule.now) (R.orders rule.now)) event.now self result.0 memory.old memory.new result.1 }
     {
         match self {
             Session::Early(session) => before_bell(session, rule, memory, event),

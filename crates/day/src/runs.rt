@@ -29,7 +29,7 @@ fn play<R: Rule>(
 ) -> Session
     requires none { outcomes.old.items ≡ [] }
     requires room { length events.now ≤ vec_capacity outcomes.old }
-    ensures { Played (rule_of (quotes rule.now) (orders rule.now)) session result memory.old memory.new events.now outcomes.new.items }
+    ensures { Played (rule_of (R.quotes rule.now) (R.orders rule.now)) session result memory.old memory.new events.now outcomes.new.items }
 {
     let mut current = session;
     for event in events {
@@ -49,7 +49,7 @@ pub fn run<R: Rule>(
     memory: &mut Memory,
     events: &[Event],
 ) -> Result<(Session, Vec<Outcome>), NoRun>
-    ensures { RunResult (rule_of (quotes rule.now) (orders rule.now)) config memory.old memory.new events.now result }
+    ensures { RunResult (rule_of (R.quotes rule.now) (R.orders rule.now)) config memory.old memory.new events.now result }
 {
     let Ok(mut outcomes) = Vec::with_capacity(heap, events.len()) else {
         return Err(NoRun::NoMemory);

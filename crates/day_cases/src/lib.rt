@@ -1,4 +1,5 @@
 // Tests of the session and the day, in tables.
+#![tactic(auto)]
 #[cfg(test)]
 mod days;
 #[cfg(test)]

@@ -1,6 +1,6 @@
 -- Lists in precedence: what an insertion and a removal keep, and what neighbours tell. Assumes nothing.
 use Rattle.std.proofs.Common.{◌≡◌, ℕ, zero, suc, ◌+◌, ◌-◌, ◌<◌, ◌≤◌, Bool, true, false, List, [], ◌∷◌, ◌++◌, length, get_or, take, drop, Some, Decides, Option, sym, refl, ap, ◌∙◌, add-one, arith}
-use Rattle.std.specs.List.{remove, AllByRecursion as All, list_all, AllAdjacentBelow}
+use Rattle.std.specs.List.{remove, AllByRecursion, list_all, AllAdjacentBelow}
 use Rattle.std.proofs.ByRecursion.{All-weaker, All-append, All-take, All-drop, Decides-by_and}
 use Rattle.std.proofs.lemmas.Bool.Decides.{Decides-and, same_from_decides}
 use Rattle.std.proofs.lemmas.Bool.{cond_both, cond-false, false≢true}
@@ -16,7 +16,7 @@ module _ {T : Type 0} (b : T → T → Bool) where
   -- the test `ordered`, as facts
   abbrev pub Chain : List T → Type 0
   Chain [] = Unit {0}
-  Chain (x ∷ xs) = All (λ y. b x y ≡ true) xs × Chain xs
+  Chain (x ∷ xs) = AllByRecursion (λ y. b x y ≡ true) xs × Chain xs
 
   pub chain_tells : (xs : List T) → Decides (ordered b xs) (Chain xs)
   chain_tells [] = (λ _. tt, λ _. refl)
@@ -45,13 +45,13 @@ module _ {T : Type 0} (b : T → T → Bool) where
   pub ordered_removed : (xs : List T) (at : ℕ) → Ordered b xs → Ordered b (remove xs at)
   ordered_removed xs at o = (chain_tells (remove xs at)).1 (chain_removed xs at ((chain_tells xs).0 o))
 
-  pub all_placed : (P : T → Type 0) (x : T) (xs : List T) → P x → All P xs → All P (placed b x xs)
+  pub all_placed : (P : T → Type 0) (x : T) (xs : List T) → P x → AllByRecursion P xs → AllByRecursion P (placed b x xs)
   all_placed P x [] p a = (p, tt)
   all_placed P x (y ∷ ys) p a =
-      cond_both (b x y) (x ∷ y ∷ ys) (y ∷ placed b x ys) (All P) (λ _. (p, a)) (λ _. (a.0, all_placed P x ys p a.1))
+      cond_both (b x y) (x ∷ y ∷ ys) (y ∷ placed b x ys) (AllByRecursion P) (λ _. (p, a)) (λ _. (a.0, all_placed P x ys p a.1))
 
   -- an entry goes behind all that it does not precede
-  pub placed_past : (x : T) (past rest : List T) → All (λ y. b x y ≡ false) past → placed b x (past ++ rest) ≡ past ++ placed b x rest
+  pub placed_past : (x : T) (past rest : List T) → AllByRecursion (λ y. b x y ≡ false) past → placed b x (past ++ rest) ≡ past ++ placed b x rest
   placed_past x [] rest a = refl
   placed_past x (y ∷ ys) rest a = rw (cond-false (b x y) _ _ a.0, placed_past x ys rest a.1) refl
 
@@ -70,7 +70,7 @@ module _ {T : Type 0} (b : T → T → Bool) where
       same_from_decides false (ordered b xs) (λ n. absurd (false≢true n), λ o. after ∙ next o) (chain_tells xs)
 
   module _ (chains : (x y z : T) → b x y ≡ true → b y z ≡ true → b x z ≡ true) where
-    further : (x y : T) (ys : List T) → b x y ≡ true → All (λ z. b y z ≡ true) ys → All (λ z. b x z ≡ true) ys
+    further : (x y : T) (ys : List T) → b x y ≡ true → AllByRecursion (λ z. b y z ≡ true) ys → AllByRecursion (λ z. b x z ≡ true) ys
     further x y ys e a = All-weaker (λ z. b y z ≡ true) (λ z. b x z ≡ true) (λ z t. chains x y z e t) ys a
 
     -- where each entry precedes the next, each precedes all behind it

@@ -1,6 +1,6 @@
 -- What a run keeps from event to event, and what an event that trades nothing leaves of it. Assumes nothing.
 use Rattle.std.proofs.Common.{◌≡◌, ℕ, ◌+◌, ◌<◌, ◌≤◌, true, false, List, [], ◌∷◌, ◌++◌, length, drop, Some, None, Ok, Err, sum_by, Option, Result, sym, refl, ap, ◌∙◌, subst, arith}
-use Rattle.std.specs.List.{ContainsAt as Has, AllByRecursion as All}
+use Rattle.std.specs.List.{ContainsAt as Has, AllByRecursion}
 use Rattle.std.proofs.lemmas.List.{append-nil, append_assoc, length-append, drop_at}
 use Rattle.std.proofs.ByRecursion.{All-weaker, All-push, all-has}
 use Rattle.std.proofs.lemmas.List.Sums.{fold_push, sum_by-append, sum_by_push}
@@ -28,7 +28,7 @@ use Rattle.market.proofs.LawfulBooks.{dealer_of, number_of, both_sides, QuotesFi
 
 -- no quote of the first list can serve an order of the second, which is of that side
 abbrev pub NoService : Side → List Quote → List Order → Type 0
-NoService side qs os = All (λ q. All (λ o. can_serve side q o ≡ false) os) qs
+NoService side qs os = AllByRecursion (λ q. AllByRecursion (λ o. can_serve side q o ≡ false) os) qs
 
 -- by sides, no quote can serve an order
 abbrev pub Resting : (Side → List Quote) → (Side → List Order) → Type 0
@@ -66,7 +66,7 @@ pub record Standing (rule : Precedence) (least : ℕ) (s : State) (log : List En
   -- there are no orders before the bell
   pub early : s.phase ≡ before_bell → (side : Side) → orders_of s.lists side ≡ []
   pub right : LogRight rule least log
-  pub held : All (λ (e : Entry). IfOrder (Held s log) e.count_before e.event e.outcome) log
+  pub held : AllByRecursion (λ (e : Entry). IfOrder (Held s log) e.count_before e.event e.outcome) log
   -- nothing is found of a number that was not given
   pub unused : (side : Side) (n : ℕ) → length s.tape < n → found_again s.lists log side n ≡ 0
   pub tape_told : tape_of log ≡ s.tape
@@ -167,7 +167,7 @@ quiet_next s phase clock quotes duties tape = record {
 -- what such an event has to show, where `more` are the records that it added
 pub record Quiet (rule : Precedence) (least : ℕ) (s : State) (log : List Entry) (event : Event) (outcome : Result Answer Refusal) (phase : Phase) (quotes : Side → List Quote) (tape more : List TapeRecord) : Type 0 where
   pub tape_grows : tape ≡ s.tape ++ more
-  pub no_trades : All NoTrade more
+  pub no_trades : AllByRecursion NoTrade more
   pub not_before : phase ≡ before_bell → s.phase ≡ before_bell
   pub quotes_fit_still : (side : Side) → QuotesFit rule side s.config.dealers (length tape) (quotes side)
   pub quotes_told_still : (side : Side) (d : ℕ) → found dealer_of d (quotes side) ≡ (after_event least (plain least log) (entry_with s event outcome tape)).quote side d
@@ -188,8 +188,8 @@ module _ (rule : Precedence) (least : ℕ) (s : State) (log : List Entry) (g : S
   added_is : new_entry.added ≡ more
   added_is = ap (drop (length s.tape)) q.tape_grows ∙ drop_at s.tape more (length s.tape) refl
 
-  none_traded : All NoTrade new_entry.added
-  none_traded = subst (All NoTrade) (sym added_is) q.no_trades
+  none_traded : AllByRecursion NoTrade new_entry.added
+  none_traded = subst (AllByRecursion NoTrade) (sym added_is) q.no_trades
 
   -- the plain book is as the event by itself leaves it
   plain_is : plain least new_log ≡ after_event least (plain least log) new_entry

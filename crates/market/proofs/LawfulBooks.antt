@@ -1,6 +1,6 @@
 -- A lawful book, as facts, and what keeps a side's quotes and orders lawful. Assumes nothing.
-use Rattle.std.proofs.Common.{◌≡◌, ℕ, ◌+◌, ◌<◌, ◌≤◌, Bool, true, not, eqb, List, ◌++◌, length, Decides, filter, refl, arith}
-use Rattle.std.specs.List.{AllByRecursion as All, list_all}
+use Rattle.std.proofs.Common.{◌≡◌, ℕ, ◌<◌, ◌≤◌, Bool, true, not, eqb, List, ◌++◌, length, Decides, filter, refl, arith}
+use Rattle.std.specs.List.{AllByRecursion, list_all}
 use Rattle.std.proofs.ByRecursion.{All-weaker, all_kept_by, Decides-by_and}
 use Rattle.std.proofs.lemmas.Bool.Decides.{nat_tests, Decides-and}
 use Rattle.market.specs.declared.Side.{Side}
@@ -29,10 +29,10 @@ both_sides P buy sell Sell = sell
 
 -- the tests `lawful_quotes` and `lawful_orders`
 abbrev pub QuotesFit : Precedence → Side → (dealers count : ℕ) → List Quote → Type 0
-QuotesFit rule side dealers count qs = All (λ q. lawful_quote dealers count q ≡ true) qs × (Chain (differ dealer_of) qs × Ordered (quote_before rule.of_quotes side) qs)
+QuotesFit rule side dealers count qs = AllByRecursion (λ q. lawful_quote dealers count q ≡ true) qs × (Chain (differ dealer_of) qs × Ordered (quote_before rule.of_quotes side) qs)
 
 abbrev pub OrdersFit : Precedence → Side → (count : ℕ) → List Order → Type 0
-OrdersFit rule side count os = All (λ o. lawful_order count o ≡ true) os × Ordered (order_before rule.of_orders side) os
+OrdersFit rule side count os = AllByRecursion (λ o. lawful_order count o ≡ true) os × Ordered (order_before rule.of_orders side) os
 
 -- the test `lawful_book`
 pub record Sound (rule : Precedence) (s : State) : Type 0 where
@@ -41,7 +41,7 @@ pub record Sound (rule : Precedence) (s : State) : Type 0 where
   pub orders_fit : (side : Side) → OrdersFit rule side (length s.tape) (orders_of s.lists side)
   pub numbers_differ : Chain (differ number_of) (s.lists.buys ++ s.lists.sells)
 
-all_tells : {T : Type 0} (test : T → Bool) (xs : List T) → Decides (list_all test xs) (All (λ x. test x ≡ true) xs)
+all_tells : {T : Type 0} (test : T → Bool) (xs : List T) → Decides (list_all test xs) (AllByRecursion (λ x. test x ≡ true) xs)
 all_tells test xs = Decides-by_and test (λ x. test x ≡ true) (list_all test) (λ x. (λ e. e, λ e. e)) refl (λ _ _. refl) xs
 
 quotes_tell : (rule : Precedence) (side : Side) (dealers count : ℕ) (qs : List Quote) → Decides (lawful_quotes rule side dealers count qs) (QuotesFit rule side dealers count qs)
@@ -95,7 +95,7 @@ module _ (rule : Precedence) (side : Side) where
         let before = quote_before rule.of_quotes side in
         let law = lawful.lawful_quotes side in
         let rest = quotes_kept (λ x. not (eqb x.dealer q.dealer)) qs h in
-        let new : All (λ (y : Quote). q.arrival ≡ y.arrival → ⊥) (without q.dealer qs) = All-weaker _ _ (λ y e same. absurd (let f : y.arrival ≤ count = grind (arith, nat_tests) in omega arith)) _ rest.0 in (
+        let new : AllByRecursion (λ (y : Quote). q.arrival ≡ y.arrival → ⊥) (without q.dealer qs) = All-weaker _ _ (λ y e same. absurd (let f : y.arrival ≤ count = grind (arith, nat_tests) in omega arith)) _ rest.0 in (
           all_placed before (λ x. lawful_quote dealers more x ≡ true) q _ fits (quotes_later dealers count more l _ rest).0,
           (
             differ_replaced dealer_of before q qs h.1.0,

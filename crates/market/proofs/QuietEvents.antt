@@ -1,6 +1,6 @@
 -- Each event that trades nothing keeps what a run keeps. Assumes nothing.
 use Rattle.std.proofs.Common.{◌≡◌, ℕ, ◌+◌, true, cond, not, eqb, List, [], ◌∷◌, ◌++◌, length, take, Some, None, Err, Option, Result, sym, refl, ap, ◌∙◌, arith}
-use Rattle.std.specs.List.{AllByRecursion as All}
+use Rattle.std.specs.List.{AllByRecursion}
 use Rattle.std.proofs.lemmas.List.{append-nil, length-append, length_push}
 use Rattle.std.proofs.ByRecursion.{All-append, all_kept_by, All-weaker, all_has_itself}
 use Rattle.std.proofs.lemmas.Bool.{and_parts, not-false}
@@ -40,17 +40,17 @@ refused_nothing count n (Event.Click dealer number) why = (tt, refl)
 refused_nothing count n Event.Close why = (tt, refl)
 
 -- late records are no trades
-late_no_trade : (t d : ℕ) (missed : Option ℕ) → All NoTrade (late_record t d missed)
+late_no_trade : (t d : ℕ) (missed : Option ℕ) → AllByRecursion NoTrade (late_record t d missed)
 late_no_trade t d None = tt
 late_no_trade t d (Some missed) = (λ x e. never (cc), tt)
 
-late_no_trades : (t d : ℕ) (duties : List Duty) → All NoTrade (late_records t d duties)
+late_no_trades : (t d : ℕ) (duties : List Duty) → AllByRecursion NoTrade (late_records t d duties)
 late_no_trades t d [] = tt
 late_no_trades t d (x ∷ xs) = All-append NoTrade (late_record t d (missed_time t x)) (late_records t (d + 1) xs) (late_no_trade t d (missed_time t x)) (late_no_trades t (d + 1) xs)
 
 module _ (rule : Precedence) (least : ℕ) (s : State) (log : List Entry) (k : Kept rule least s log) where
   -- an event that leaves the lists and the plain book alone
-  idle : (event : Event) (outcome : Result Answer Refusal) (phase : Phase) (clock : ℕ) (duties : List Duty) (tape more : List TapeRecord) → tape ≡ s.tape ++ more → All NoTrade more → (phase ≡ before_bell → s.phase ≡ before_bell) → after_event least (plain least log) (entry_with s event outcome tape) ≡ plain least log → IfOrder (λ _ _ _. ⊥) (length s.tape) event outcome → ((n : ℕ) → cancelled_by n event outcome ≡ 0) → After rule least s log event (record { outcome = outcome; next = quiet_next s phase clock (quotes_of s.lists) duties tape })
+  idle : (event : Event) (outcome : Result Answer Refusal) (phase : Phase) (clock : ℕ) (duties : List Duty) (tape more : List TapeRecord) → tape ≡ s.tape ++ more → AllByRecursion NoTrade more → (phase ≡ before_bell → s.phase ≡ before_bell) → after_event least (plain least log) (entry_with s event outcome tape) ≡ plain least log → IfOrder (λ _ _ _. ⊥) (length s.tape) event outcome → ((n : ℕ) → cancelled_by n event outcome ≡ 0) → After rule least s log event (record { outcome = outcome; next = quiet_next s phase clock (quotes_of s.lists) duties tape })
   idle event outcome phase clock duties tape more grows none not_before same no_order no_cancel =
       let g = k.standing in
       quiet_kept rule least s log g event outcome phase clock (quotes_of s.lists) duties tape more

@@ -1,6 +1,6 @@
 -- 'Best served' by recursion over the log: it can grow at the log's end, and gives the form by splits. Assumes nothing.
 use Rattle.std.proofs.Common.{◌≡◌, ℕ, List, [], ◌∷◌, ◌++◌, fold, sum_by, refl, ◌∙◌, subst, arith}
-use Rattle.std.specs.List.{AllByRecursion as All}
+use Rattle.std.specs.List.{AllByRecursion}
 use Rattle.std.proofs.lemmas.List.Sums.{sum_by-cons}
 use Rattle.market.specs.declared.Trade.{Trade}
 use Rattle.market.specs.declared.TapeRecord.{TapeRecord}
@@ -64,11 +64,11 @@ no_trade_tells (TapeRecord.Trade t) none book n = absurd (none t refl)
 no_trade_tells (TapeRecord.Late time dealer missed) none book n = (refl, refl)
 no_trade_tells (TapeRecord.Halt time direction) none book n = (refl, refl)
 
-pub no_trades_change_nothing : (rs : List TapeRecord) → All NoTrade rs → (book : PlainBook) → after_records book rs ≡ book
+pub no_trades_change_nothing : (rs : List TapeRecord) → AllByRecursion NoTrade rs → (book : PlainBook) → after_records book rs ≡ book
 no_trades_change_nothing [] none book = refl
 no_trades_change_nothing (r ∷ rs) none book = no_trades_change_nothing rs none.1 (after_record book r) ∙ (no_trade_tells r none.0 book 0).0
 
-pub no_trades_sum : (rs : List TapeRecord) → All NoTrade rs → (n : ℕ) → sum_by (traded_of n) rs ≡ 0
+pub no_trades_sum : (rs : List TapeRecord) → AllByRecursion NoTrade rs → (n : ℕ) → sum_by (traded_of n) rs ≡ 0
 no_trades_sum [] none n = refl
 no_trades_sum (r ∷ rs) none n =
     let first = (no_trade_tells r none.0 empty_book n).1 in
@@ -76,6 +76,6 @@ no_trades_sum (r ∷ rs) none n =
     let all = sum_by-cons (traded_of n) r rs in
     omega arith
 
-pub no_trades_right : (rule : Precedence) (rs : List TapeRecord) → All NoTrade rs → (book : PlainBook) → RecordsRight rule book rs
+pub no_trades_right : (rule : Precedence) (rs : List TapeRecord) → AllByRecursion NoTrade rs → (book : PlainBook) → RecordsRight rule book rs
 no_trades_right rule [] none book = tt
 no_trades_right rule (r ∷ rs) none book = (λ t e. absurd (none.0 t e), no_trades_right rule rs none.1 (after_record book r))

@@ -1,6 +1,6 @@
 -- The kinds of steps: what holds of a refusal and of each kind of accepted event holds of every step. Assumes nothing.
 use Rattle.std.proofs.Common.{◌≡◌, ℕ, false, List, [], ◌∷◌, length, Some, None, Option, refl}
-use Rattle.std.specs.List.{AllByRecursion as All}
+use Rattle.std.specs.List.{AllByRecursion}
 use Rattle.std.proofs.lemmas.Bool.{cond_both}
 use Rattle.market.specs.declared.Pair.{Pair}
 use Rattle.market.specs.declared.Duty.{Duty}
@@ -14,7 +14,7 @@ use Rattle.market.proofs.Finds.{never}
 
 -- none of these reasons to refuse holds
 abbrev pub NoneHolds : List Reason → Type 0
-NoneHolds rs = All (λ (r : Reason). r.0 ≡ false) rs
+NoneHolds rs = AllByRecursion (λ (r : Reason). r.0 ≡ false) rs
 
 none_holds : (rs : List Reason) → first_of rs ≡ None → NoneHolds rs
 none_holds [] = λ e. tt

@@ -1,6 +1,6 @@
 -- What a run guarantees its customers, over its log and its four lists. Assumes nothing.
-use Rattle.std.specs.Prelude.{◌≡◌, ℕ, ◌+◌, true, false, cond, List, [], ◌∷◌, ◌++◌, map, length, take, drop, Some, None, Ok, Err, sum_by, Option, Result, ◌==◌, ◌≢◌}
-use Rattle.std.specs.List.{ContainsAt as Has, AllByRecursion as All}
+use Rattle.std.specs.Prelude.{◌≡◌, ℕ, ◌+◌, true, false, cond, List, [], ◌∷◌, ◌++◌, map, length, drop, Some, None, Ok, Err, sum_by, Option, Result, ◌==◌, ◌≢◌}
+use Rattle.std.specs.List.{ContainsAt as Has, AllByRecursion}
 use Rattle.market.specs.declared.Side.{Side}
 use Rattle.market.specs.declared.Quote.{Quote}
 use Rattle.market.specs.declared.Order.{Order}
@@ -147,7 +147,7 @@ Accounted lists log count Event.Close r = Unit {0}
 
 -- no share of an accepted order is lost
 abbrev pub NothingLost : Lists → List Entry → Type 0
-NothingLost lists log = All (λ (e : Entry). Accounted lists log e.count_before e.event e.outcome) log
+NothingLost lists log = AllByRecursion (λ (e : Entry). Accounted lists log e.count_before e.event e.outcome) log
 
 -- ---- the guarantee
 

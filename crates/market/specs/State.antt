@@ -1,7 +1,6 @@
 -- A session with its book, as lists. Assumes nothing.
 use Rattle.std.specs.Prelude.{ℕ, ◌+◌, ◌-◌, Bool, cond, not, ◌&&◌, ◌||◌, List, [], ◌∷◌, ◌++◌, length, Some, None, filter, Option, ◌==◌, nat_eq, nat_le}
 use Rattle.std.specs.List.{list_all}
-use Rattle.std.specs.Map.Invariant.{is-distinct}
 use Rattle.market.specs.declared.Side.{Side}
 use Rattle.market.specs.declared.Side.TheVariants.{Buy, Sell}
 use Rattle.market.specs.declared.Quote.{Quote}
@@ -10,7 +9,7 @@ use Rattle.market.specs.declared.Config.{Config}
 use Rattle.market.specs.declared.Duty.{Duty}
 use Rattle.market.specs.declared.TapeRecord.{TapeRecord}
 use Rattle.market.specs.Precedence.{Precedence, quote_before, order_before}
-use Rattle.market.specs.Lists.{ordered}
+use Rattle.market.specs.Lists.{is_distinct, ordered}
 use Rattle.market.specs.Serving.{is_whole}
 
 -- ---- what a session consists of
@@ -110,7 +109,7 @@ lawful_order count o =
 
 -- no two entries have the same number, by the number that each has
 abbrev pub apart : {T : Type 0} → (T → ℕ) → List T → Bool
-apart number_of_lem xs = is-distinct (λ x y. nat_eq (number_of_lem x) (number_of_lem y)) xs
+apart number_of xs = is_distinct (λ x y. nat_eq (number_of x) (number_of y)) xs
 
 -- one side's quotes: each as it may be, no dealer twice, strictly in precedence
 abbrev pub lawful_quotes : Precedence → Side → (dealers count : ℕ) → List Quote → Bool

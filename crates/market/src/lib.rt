@@ -1,4 +1,6 @@
 // The plain types of one security's day on the emerging board.
+#![tactic(auto)]
+
 ghost use Rattle.std.specs.Prelude.{◌≡◌};
 ghost use Rattle.market.specs.Precedence.{quote_key, order_key};
 ghost use Rattle.market.specs.Outcomes.{refusal_number};

@@ -1,7 +1,7 @@
 -- A list in the first places of a slice: where a search for a place ends, and what the moves of an edit come to. Assumes nothing.
 use Rattle.std.proofs.Common.{◌≡◌, ℕ, ◌+◌, ◌-◌, ◌<◌, ◌≤◌, Bool, true, false, List, [], ◌∷◌, ◌++◌, length, get_or, take, drop, set, sym, refl, ap, ◌∙◌, arith, rules}
 use lib.Seq.{paste}
-use Rattle.std.specs.List.{insert, remove, AllByRecursion as All, AllAdjacentBelow}
+use Rattle.std.specs.List.{insert, remove, AllByRecursion, AllAdjacentBelow}
 use Rattle.std.proofs.ByRecursion.{All-more}
 use Rattle.std.proofs.lemmas.Bool.{cond-true, cases_eq}
 use Rattle.std.proofs.lemmas.List.{places, same_lists, drop_more, drop_all, take-append-drop, take_at, take-take, length-take, get_or-take, get_or-set_same}
@@ -30,7 +30,7 @@ length_removed xs n at h k = search (rules, places)
 module _ {T : Type 0} (b : T → T → Bool) where
   -- x precedes none of the first i entries
   abbrev pub Passed : T → List T → ℕ → Type 0
-  Passed x xs i = All (λ y. b x y ≡ false) (take i xs)
+  Passed x xs i = AllByRecursion (λ y. b x y ≡ false) (take i xs)
 
   pub passed_more : (x : T) (xs : List T) (i : ℕ) (y : T) → i < length xs → y ≡ get_or xs i y → false ≡ b x y → Passed x xs i → Passed x xs (i + 1)
   passed_more x xs i y h e later p = All-more (λ z. b x z ≡ false) xs i y h p (rw e at (sym later))
@@ -39,7 +39,7 @@ module _ {T : Type 0} (b : T → T → Bool) where
   stops : (x : T) (xs : List T) (n i : ℕ) → i ≤ n → Passed x xs i → placed b x (drop i (take n xs)) ≡ x ∷ drop i (take n xs) → insert (take n xs) i x ≡ placed b x (take n xs)
   stops x xs n i h p s =
       let front : take i (take n xs) ≡ take i xs = take-take i n xs h in
-      let past : All (λ y. b x y ≡ false) (take i (take n xs)) = rw front p in
+      let past : AllByRecursion (λ y. b x y ≡ false) (take i (take n xs)) = rw front p in
       sym (ap (placed b x) (sym (take-append-drop i (take n xs))) ∙ placed_past b x (take i (take n xs)) (drop i (take n xs)) past ∙ ap (λ t. take i (take n xs) ++ t) s)
 
   -- at an entry that x precedes

@@ -79,8 +79,8 @@ pub fn first<T: Copy>(list: &[T], count: usize) -> Option<T>
 fn place<R, T: Ranked<R>>(rule: &R, side: Side, list: &[T], count: usize, item: &T) -> usize
     requires { count ≤ length list.now }
     ensures within { result ≤ count }
-    ensures at { insert (take count list.now) result item.now ≡ placed (before rule.now side) item.now (take count list.now) }
-    ensures ordered { Fresh arrival item.now (take count list.now) → Ordered (before rule.now side) (take count list.now) → Ordered (before rule.now side) (insert (take count list.now) result item.now) }
+    ensures at { insert (take count list.now) result item.now ≡ placed (T.before rule.now side) item.now (take count list.now) }
+    ensures ordered { Fresh T.arrival item.now (take count list.now) → Ordered (T.before rule.now side) (take count list.now) → Ordered (T.before rule.now side) (insert (take count list.now) result item.now) }
 {
     for i in 0..count {
         if item.precedes(&list[i], rule, side) {
@@ -103,9 +103,9 @@ fn put<T: Copy>(list: &mut [T], count: usize, at: usize, item: T)
 // Puts an entry in its place. The places behind the longer list stay as they are.
 pub fn insert<R, T: Ranked<R>>(rule: &R, side: Side, list: &mut [T], count: usize, item: T)
     requires { count < length list.old }
-    ensures after { list.new ≡ placed (before rule.now side) item (take count list.old) ++ drop (count + 1) list.old }
-    ensures front { take (count + 1) list.new ≡ placed (before rule.now side) item (take count list.old) }
-    ensures ordered { Fresh arrival item (take count list.old) → Ordered (before rule.now side) (take count list.old) → Ordered (before rule.now side) (take (count + 1) list.new) }
+    ensures after { list.new ≡ placed (T.before rule.now side) item (take count list.old) ++ drop (count + 1) list.old }
+    ensures front { take (count + 1) list.new ≡ placed (T.before rule.now side) item (take count list.old) }
+    ensures ordered { Fresh T.arrival item (take count list.old) → Ordered (T.before rule.now side) (take count list.old) → Ordered (T.before rule.now side) (take (count + 1) list.new) }
 {
     let at = place(rule, side, list, count, &item);
     put(list, count, at, item);
@@ -137,7 +137,7 @@ pub fn remove<T: Copy>(list: &mut [T], count: usize, at: usize) -> T
 // Whether the list stands strictly in precedence: each entry before the next, and so, by transitivity, before all behind it.
 pub fn in_order<R, T: Ranked<R>>(rule: &R, side: Side, list: &[T], count: usize) -> bool
     requires { count ≤ length list.now }
-    ensures { result ≡ ordered (before rule.now side) (take count list.now) }
+    ensures { result ≡ ordered (T.before rule.now side) (take count list.now) }
 {
     let entries = &list[0..count];
     for (i, entry) in entries.iter().enumerate() {

@@ -1,4 +1,6 @@
 // The 24-byte records of event files and tapes, read and written.
+#![tactic(auto)]
+
 mod events;
 mod parts;
 mod tape;

@@ -35,7 +35,7 @@ impl Ledger {
         pair: Pair,
     )
         requires { MayQuote dealer self.old memory.old }
-        ensures { Became (quoted (rule_of (quotes rule.now) (orders rule.now)) dealer pair) self.old self.new memory.old memory.new }
+        ensures { Became (quoted (rule_of (R.quotes rule.now) (R.orders rule.now)) dealer pair) self.old self.new memory.old memory.new }
     {
         let arrival = self.counts.tape as u32 + 1;
         let bid = new_quote(dealer, pair.bid, pair.bid_quantity, arrival);

@@ -27,7 +27,7 @@ impl Ledger {
         dealer: u8,
         pair: Pair,
     ) -> Result<Answer, Refusal>
-        ensures { Did (early_quote_step (rule_of (quotes rule.now) (orders rule.now)) dealer pair (view before_bell self.old memory.old)) before_bell self.old self.new memory.old memory.new result }
+        ensures { Did (early_quote_step (rule_of (R.quotes rule.now) (R.orders rule.now)) dealer pair (view before_bell self.old memory.old)) before_bell self.old self.new memory.old memory.new result }
     {
         if let Some(refusal) = self.quote_refusal(rule, memory, dealer, pair) {
             return Err(refusal);
@@ -45,7 +45,7 @@ impl Ledger {
         memory: &mut Memory,
         dealer: u8,
     ) -> Result<Answer, Refusal>
-        ensures { Did (withdrawal_step (rule_of (quotes rule.now) (orders rule.now)) dealer (view before_bell self.old memory.old)) before_bell self.old self.new memory.old memory.new result }
+        ensures { Did (withdrawal_step (rule_of (R.quotes rule.now) (R.orders rule.now)) dealer (view before_bell self.old memory.old)) before_bell self.old self.new memory.old memory.new result }
     {
         if let Some(refusal) = self.withdrawal_refusal(rule, memory, dealer) {
             return Err(refusal);
@@ -60,7 +60,7 @@ impl Ledger {
         memory: &mut Memory,
         time: u32,
     ) -> Result<Answer, Refusal>
-        ensures { Did (clock_step (rule_of (quotes rule.now) (orders rule.now)) time (view before_bell self.old memory.old)) before_bell self.old self.new memory.old memory.new result }
+        ensures { Did (clock_step (rule_of (R.quotes rule.now) (R.orders rule.now)) time (view before_bell self.old memory.old)) before_bell self.old self.new memory.old memory.new result }
     {
         if let Some(refusal) = self.clock_refusal(rule, memory, time, LATEST_EARLY) {
             return Err(refusal);
@@ -71,7 +71,7 @@ impl Ledger {
 
     // Opens trading at the time of the bell.
     pub(crate) fn ring<R: Rule>(&mut self, rule: &R, memory: &mut Memory) -> Result<(), Refusal>
-        ensures { BellRang (rule_of (quotes rule.now) (orders rule.now)) self.old self.new memory.old memory.new result }
+        ensures { BellRang (rule_of (R.quotes rule.now) (R.orders rule.now)) self.old self.new memory.old memory.new result }
     {
         if !self.lawful(rule, memory) {
             return Err(Refusal::UnlawfulBook);
@@ -88,7 +88,7 @@ impl Ledger {
         memory: &mut Memory,
         dealer: u8,
     ) -> Result<Answer, Refusal>
-        ensures { Did (withdrawal_step (rule_of (quotes rule.now) (orders rule.now)) dealer (view trading self.old memory.old)) trading self.old self.new memory.old memory.new result }
+        ensures { Did (withdrawal_step (rule_of (R.quotes rule.now) (R.orders rule.now)) dealer (view trading self.old memory.old)) trading self.old self.new memory.old memory.new result }
     {
         if let Some(refusal) = self.withdrawal_refusal(rule, memory, dealer) {
             return Err(refusal);
@@ -104,7 +104,7 @@ impl Ledger {
         memory: &mut Memory,
         time: u32,
     ) -> Result<Answer, Refusal>
-        ensures { Did (clock_step (rule_of (quotes rule.now) (orders rule.now)) time (view trading self.old memory.old)) trading self.old self.new memory.old memory.new result }
+        ensures { Did (clock_step (rule_of (R.quotes rule.now) (R.orders rule.now)) time (view trading self.old memory.old)) trading self.old self.new memory.old memory.new result }
     {
         if let Some(refusal) = self.clock_refusal(rule, memory, time, LATEST) {
             return Err(refusal);

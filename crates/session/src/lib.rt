@@ -1,4 +1,5 @@
 // One session, from its making to its close. Its phases are types, and the caller lends the memory at each call.
+#![tactic(auto)]
 mod accepting;
 mod events;
 pub mod ledger;

@@ -18,7 +18,7 @@ impl PreOpen {
         dealer: u8,
         pair: Pair,
     ) -> Result<Answer, Refusal>
-        ensures { Did (early_quote_step (rule_of (quotes rule.now) (orders rule.now)) dealer pair (view before_bell self.old.ledger memory.old)) before_bell self.old.ledger self.new.ledger memory.old memory.new result }
+        ensures { Did (early_quote_step (rule_of (R.quotes rule.now) (R.orders rule.now)) dealer pair (view before_bell self.old.ledger memory.old)) before_bell self.old.ledger self.new.ledger memory.old memory.new result }
     {
         self.ledger.early_quote(rule, memory, dealer, pair)
     }
@@ -30,7 +30,7 @@ impl PreOpen {
         memory: &mut Memory,
         dealer: u8,
     ) -> Result<Answer, Refusal>
-        ensures { Did (withdrawal_step (rule_of (quotes rule.now) (orders rule.now)) dealer (view before_bell self.old.ledger memory.old)) before_bell self.old.ledger self.new.ledger memory.old memory.new result }
+        ensures { Did (withdrawal_step (rule_of (R.quotes rule.now) (R.orders rule.now)) dealer (view before_bell self.old.ledger memory.old)) before_bell self.old.ledger self.new.ledger memory.old memory.new result }
     {
         self.ledger.early_withdrawal(rule, memory, dealer)
     }
@@ -42,14 +42,14 @@ impl PreOpen {
         memory: &mut Memory,
         time: u32,
     ) -> Result<Answer, Refusal>
-        ensures { Did (clock_step (rule_of (quotes rule.now) (orders rule.now)) time (view before_bell self.old.ledger memory.old)) before_bell self.old.ledger self.new.ledger memory.old memory.new result }
+        ensures { Did (clock_step (rule_of (R.quotes rule.now) (R.orders rule.now)) time (view before_bell self.old.ledger memory.old)) before_bell self.old.ledger self.new.ledger memory.old memory.new result }
     {
         self.ledger.early_step(rule, memory, time)
     }
 
     // Opens trading, or hands the session back where the book is not lawful.
     pub fn ring<R: Rule>(self, rule: &R, memory: &mut Memory) -> Result<Open, (Refusal, PreOpen)>
-        ensures { Rang (rule_of (quotes rule.now) (orders rule.now)) self memory.old memory.new result }
+        ensures { Rang (rule_of (R.quotes rule.now) (R.orders rule.now)) self memory.old memory.new result }
     {
         let PreOpen { mut ledger } = self;
         match ledger.ring(rule, memory) {

@@ -24,7 +24,7 @@ impl Ledger {
     // Whether the book that was handed in is lawful.
     pub(crate) fn lawful<R: Rule>(&self, rule: &R, memory: &Memory) -> bool
         ensures good { result ≡ true → GoodBook self.now memory.now }
-        ensures test { (phase : Phase) → result ≡ lawful_book (rule_of (quotes rule.now) (orders rule.now)) (view phase self.now memory.now) }
+        ensures test { (phase : Phase) → result ≡ lawful_book (rule_of (R.quotes rule.now) (R.orders rule.now)) (view phase self.now memory.now) }
     {
         is_lawful(
             rule,
@@ -62,7 +62,7 @@ impl Ledger {
         pair: Pair,
     ) -> Option<Refusal>
         ensures ready { result ≡ None → MayQuote dealer self.now memory.now }
-        ensures first { (phase : Phase) → result ≡ first_of (quote_reasons (rule_of (quotes rule.now) (orders rule.now)) dealer pair (view phase self.now memory.now)) }
+        ensures first { (phase : Phase) → result ≡ first_of (quote_reasons (rule_of (R.quotes rule.now) (R.orders rule.now)) dealer pair (view phase self.now memory.now)) }
     {
         if !self.lawful(rule, memory) {
             return Some(Refusal::UnlawfulBook);
@@ -97,7 +97,7 @@ impl Ledger {
         dealer: u8,
     ) -> Option<Refusal>
         ensures ready { result ≡ None → MayWithdraw dealer self.now memory.now }
-        ensures first { (phase : Phase) → result ≡ first_of (withdrawal_reasons (rule_of (quotes rule.now) (orders rule.now)) dealer (view phase self.now memory.now)) }
+        ensures first { (phase : Phase) → result ≡ first_of (withdrawal_reasons (rule_of (R.quotes rule.now) (R.orders rule.now)) dealer (view phase self.now memory.now)) }
     {
         if !self.lawful(rule, memory) {
             return Some(Refusal::UnlawfulBook);
@@ -126,7 +126,7 @@ impl Ledger {
     ) -> Option<Refusal>
         requires { latest ≤ 5400000 }
         ensures ready { result ≡ None → MayStep time self.now memory.now }
-        ensures first { (phase : Phase) → latest ≡ latest_clock phase → result ≡ first_of (clock_reasons (rule_of (quotes rule.now) (orders rule.now)) time (view phase self.now memory.now)) }
+        ensures first { (phase : Phase) → latest ≡ latest_clock phase → result ≡ first_of (clock_reasons (rule_of (R.quotes rule.now) (R.orders rule.now)) time (view phase self.now memory.now)) }
     {
         if !self.lawful(rule, memory) {
             return Some(Refusal::UnlawfulBook);

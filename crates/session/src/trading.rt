@@ -18,7 +18,7 @@ impl Open {
         memory: &mut Memory,
         dealer: u8,
     ) -> Result<Answer, Refusal>
-        ensures { Did (withdrawal_step (rule_of (quotes rule.now) (orders rule.now)) dealer (view trading self.old.ledger memory.old)) trading self.old.ledger self.new.ledger memory.old memory.new result }
+        ensures { Did (withdrawal_step (rule_of (R.quotes rule.now) (R.orders rule.now)) dealer (view trading self.old.ledger memory.old)) trading self.old.ledger self.new.ledger memory.old memory.new result }
     {
         self.ledger.withdrawal(rule, memory, dealer)
     }
@@ -30,7 +30,7 @@ impl Open {
         memory: &mut Memory,
         time: u32,
     ) -> Result<Answer, Refusal>
-        ensures { Did (clock_step (rule_of (quotes rule.now) (orders rule.now)) time (view trading self.old.ledger memory.old)) trading self.old.ledger self.new.ledger memory.old memory.new result }
+        ensures { Did (clock_step (rule_of (R.quotes rule.now) (R.orders rule.now)) time (view trading self.old.ledger memory.old)) trading self.old.ledger self.new.ledger memory.old memory.new result }
     {
         self.ledger.step(rule, memory, time)
     }

@@ -5,13 +5,13 @@ use Rattle.board.proofs.report.fill.Goals as goal
 
 pub loop-piece-init : goal.loop-piece-init
 loop-piece-init c =
-    let is = c.into-iter-piece-iterator.ensures.into-iter-gives in
+    let is = c.into_iter-piece-iterator.ensures.into_iter_gives in
     (ap chunks_size is ∙ c.chunks-piece-items.ensures.size, begun_none c.args.file.now c.args.day.now c.args.memory.now _ _ c.requires (ap chunks_rest is ∙ c.chunks-piece-items.ensures.rest))
 
 pub loop-piece-preserved : goal.loop-piece-preserved
 loop-piece-preserved c =
     let s = c.in-Some.ensures.steps in
-    (s.0 ∙ c.loop-piece.invariant.0, begun_more c.args.file.now c.args.day.now c.args.memory.now _ _ _ _ _ _ _ _ _ _ c.in-ok-push.ensures.items s.1.0 (rw c.loop-piece.invariant.0 at s.1.1) s.1.2 c.take.ensures c.loop-piece.invariant.1)
+    (s.0 ∙ c.loop-piece.invariant.0, begun_more c.args.file.now c.args.day.now c.args.memory.now _ _ _ _ _ _ _ _ _ _ c.in_ok-push.ensures.items s.1.0 (rw c.loop-piece.invariant.0 at s.1.1) s.1.2 c.take.ensures c.loop-piece.invariant.1)
 
 pub returns : goal.returns
 returns c = begun_all c.args.file.now c.args.day.now c.args.memory.now _ _ _ _ c.in-None.ensures.steps.1.0 c.loop-piece.invariant.1

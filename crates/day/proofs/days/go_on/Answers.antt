@@ -3,7 +3,7 @@ use Rattle.day.proofs.Layers.{misread, same_memory}
 use Rattle.day.proofs.days.go_on.Goals as goal
 
 pub returns-in-Ok : goal.returns-in-Ok
-returns-in-Ok c = (Ok c.in-Ok.event, c.in-Ok.ensures, (c.take-under-session.result.1, c.take-under-session.ensures, c.answer-at.ensures))
+returns-in-Ok c = (Ok c.in-Ok.event, c.in-Ok.ensures, (c.take_under-session.result.1, c.take_under-session.ensures, c.answer_at.ensures))
 
 pub returns-in-Err : goal.returns-in-Err
 returns-in-Err c =

@@ -20,4 +20,4 @@ pub returns-in-E : goal.returns-in-E
 returns-in-E c = let k : c.args.head.kind ≡ 69 = omega arith in rw k refl
 
 pub returns-in-O : goal.returns-in-O
-returns-in-O c = let k : c.args.head.kind ≡ 79 = omega arith in rw (k, c.nearest-side.ensures) refl
+returns-in-O c = let k : c.args.head.kind ≡ 79 = omega arith in rw (k, c.nearest_side.ensures) refl

@@ -3,4 +3,4 @@ use Rattle.records.proofs.EventForms.{event_format}
 use Rattle.records.proofs.events.write_event.Goals as goal
 
 pub returns : goal.returns
-returns c = written event_format _ _ c.event-record.ensures.bytes c.event-record.ensures.fits
+returns c = written event_format _ _ c.event_record.ensures.bytes c.event_record.ensures.fits

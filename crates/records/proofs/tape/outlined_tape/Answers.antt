@@ -11,7 +11,7 @@ pub returns-in-H : goal.returns-in-H
 returns-in-H c = let k : c.args.head.kind ≡ 72 = omega arith in rw k refl
 
 pub returns-in-O : goal.returns-in-O
-returns-in-O c = let k : c.args.head.kind ≡ 79 = omega arith in rw (k, c.nearest-side.ensures) refl
+returns-in-O c = let k : c.args.head.kind ≡ 79 = omega arith in rw (k, c.nearest_side.ensures) refl
 
 pub returns-in-C : goal.returns-in-C
-returns-in-C c = let k : c.args.head.kind ≡ 67 = omega arith in rw (k, c.nearest-side-in-C.ensures) refl
+returns-in-C c = let k : c.args.head.kind ≡ 67 = omega arith in rw (k, c.nearest_side-in-C.ensures) refl

@@ -4,18 +4,18 @@ use Rattle.records.proofs.Trips.{answered}
 use Rattle.records.proofs.TapeForms.{tape_format}
 use Rattle.records.proofs.tape.read_tape.Goals as goal
 
-pub returns-in-default-outlined-tape : goal.returns-in-default-outlined-tape
-returns-in-default-outlined-tape c =
+pub returns-in_default-outlined_tape : goal.returns-in_default-outlined_tape
+returns-in_default-outlined_tape c =
     let xs = c.args.bytes.now in
     let w = c.in-Some.words in
     answered tape_format xs _
     (wrong_kind tape_format xs w _ (whole xs w _ (omega (arith, ltb-false)) refl refl refl refl c.in-Some.ensures)
-    c.in-default-outlined-tape.ensures)
+    c.in_default-outlined_tape.ensures)
 
-pub returns-in-Some-first-difference : goal.returns-in-Some-first-difference
-returns-in-Some-first-difference c =
+pub returns-in-Some-first_difference : goal.returns-in-Some-first_difference
+returns-in-Some-first_difference c =
     let xs = c.args.bytes.now in
     let w = c.in-Some.words in
     answered tape_format xs _
     (wrong_byte tape_format xs _ w _ _ _ (whole xs w _ (omega (arith, ltb-false)) refl refl refl refl c.in-Some.ensures)
-    c.write-tape.ensures c.in-Some-outlined-tape.ensures c.in-Some-first-difference.ensures)
+    c.write_tape.ensures c.in-Some-outlined_tape.ensures c.in-Some-first_difference.ensures)

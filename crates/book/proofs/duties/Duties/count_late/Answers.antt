@@ -1,13 +1,13 @@
 use Rattle.std.proofs.Common.{◌≡◌, length, take, ap, ◌∙◌, arith}
 use Rattle.market.specs.Events.{late_records}
 use Rattle.book.proofs.ByDealer.{late_count}
-use Rattle.book.proofs.duties.Duties.count_late.Goals.{then-is-some, else-is-some}
+use Rattle.book.proofs.duties.Duties.count_late.Goals.{then-is_some, else-is_some}
 use Rattle.book.proofs.duties.Duties.count_late.Goals as goal
 
 pub loop-i-preserved : goal.loop-i-preserved
 loop-i-preserved c =
     let more = late_count c.args.time c.args.self.now.states c.loop-i.i c.missed.result c.missed.ensures in
-    elim c.if-is-some.branch [ then-is-some w ↦ (grind arith, grind arith) | else-is-some w ↦ (grind arith, grind arith) ]
+    elim c.if-is_some.branch [ then-is_some w ↦ (grind arith, grind arith) | else-is_some w ↦ (grind arith, grind arith) ]
 
 pub returns : goal.returns
 returns c =

@@ -4,7 +4,7 @@ use Rattle.book.proofs.ByDealer.{of_dealers_more}
 use Rattle.book.proofs.duties.Duties.mark_late.Goals as goal
 
 pub loop-i-preserved : goal.loop-i-preserved
-loop-i-preserved c = c.put.ensures ∙ of_dealers_more (λ _. duty_at c.args.time) _ _ _ _ _ c.loop-i.invariant c.at-time-duty.ensures
+loop-i-preserved c = c.put.ensures ∙ of_dealers_more (λ _. duty_at c.args.time) _ _ _ _ _ c.loop-i.invariant c.at_time-duty.ensures
 
 pub returns : goal.returns
 returns c =

@@ -2,8 +2,8 @@ use Rattle.std.proofs.Common.{rules}
 use Rattle.session.specs.View.{GoodBook}
 use Rattle.session.proofs.ledger.Ledger.clock_refusal.Goals as goal
 
-pub returns-then-free-places-count-late : goal.returns-then-free-places-count-late
-returns-then-free-places-count-late g c =
+pub returns-then-free_places-count_late : goal.returns-then-free_places-count_late
+returns-then-free_places-count_late g c =
     let book : GoodBook c.args.self.now c.args.memory.now = c.lawful.ensures.good c.if-not-lawful.false in
     search rules
 

@@ -9,4 +9,4 @@ returns-in-Some g c = refused _ before_bell _ _ _ _ (c.in-Some.ensures.first bef
 
 pub returns : goal.returns
 unfolding early_quote_step
-returns g c = accepted _ before_bell _ _ before_bell _ _ _ _ (c.in-default.ensures.first before_bell) (c.enter-pair.ensures.becomes before_bell) c.enter-pair.ensures.longer c.enter-pair.ensures.leaves
+returns g c = accepted _ before_bell _ _ before_bell _ _ _ _ (c.in_default.ensures.first before_bell) (c.enter_pair.ensures.becomes before_bell) c.enter_pair.ensures.longer c.enter_pair.ensures.leaves

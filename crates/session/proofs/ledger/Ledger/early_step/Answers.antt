@@ -11,7 +11,7 @@ returns-in-Some g c = refused _ before_bell _ _ _ _ (c.in-Some.ensures.first bef
 pub returns : goal.returns
 unfolding clock_step
 returns g c =
-    answered _ _ _ _ _ _ _ _ c.set-clock-late.ensures.late
-    (accepted _ before_bell _ _ before_bell _ _ _ _ (c.in-default.ensures.first before_bell refl)
-    (early (stepped c.args.time) _ _ _ _ c.set-clock-late.ensures.became refl)
-    c.set-clock-late.ensures.became.longer c.set-clock-late.ensures.became.leaves)
+    answered _ _ _ _ _ _ _ _ c.set_clock-late.ensures.late
+    (accepted _ before_bell _ _ before_bell _ _ _ _ (c.in_default.ensures.first before_bell refl)
+    (early (stepped c.args.time) _ _ _ _ c.set_clock-late.ensures.became refl)
+    c.set_clock-late.ensures.became.longer c.set_clock-late.ensures.became.leaves)

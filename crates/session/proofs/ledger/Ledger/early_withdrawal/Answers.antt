@@ -11,6 +11,6 @@ returns-in-Some g c = refused _ before_bell _ _ _ _ (c.in-Some.ensures.first bef
 pub returns : goal.returns
 unfolding withdrawal_step
 returns g c =
-    accepted _ before_bell _ _ before_bell _ _ _ _ (c.in-default.ensures.first before_bell)
-    (early (withdrawn c.args.dealer) _ _ _ _ c.take-out.ensures refl)
-    c.take-out.ensures.longer c.take-out.ensures.leaves
+    accepted _ before_bell _ _ before_bell _ _ _ _ (c.in_default.ensures.first before_bell)
+    (early (withdrawn c.args.dealer) _ _ _ _ c.take_out.ensures refl)
+    c.take_out.ensures.longer c.take_out.ensures.leaves

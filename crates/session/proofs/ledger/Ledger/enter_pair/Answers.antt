@@ -16,8 +16,8 @@ returns g c =
     let rule = g.R.Rule.quotes c.args.rule.now in
     let fits : l.counts.tape ≤ length m.tape.now = omega arith in
     let next : l.counts.tape + 1 ≡ length (take l.counts.tape m.tape.now) + 1 = ap (λ k. k + 1) (sym (length-take-le l.counts.tape m.tape.now fits)) in
-    let bid = c.new-quote-bid.ensures ∙ ap (new_quote d p.bid p.bid_quantity) next in
-    let ask = c.new-quote-ask.ensures ∙ ap (new_quote d p.ask p.ask_quantity) next in
+    let bid = c.new_quote-bid.ensures ∙ ap (new_quote d p.bid p.bid_quantity) next in
+    let ask = c.new_quote-ask.ensures ∙ ap (new_quote d p.ask p.ask_quantity) next in
     let bids = c.replace-self.ensures.list ∙ ap (λ (q : Quote). placed (quote_before rule Buy) q (without q.dealer (take l.counts.bids m.bids.now))) bid in
     let asks = c.replace-self-2.ensures.list ∙ ap (λ (q : Quote). placed (quote_before rule Sell) q (without q.dealer (take l.counts.asks m.asks.now))) ask in
     search (rules, take_more_set, drop-set-lt)

@@ -9,6 +9,6 @@ unfolding lawful_book
 returns g c =
     let rule = rule_of (g.R.Rule.quotes c.args.rule.now) (g.R.Rule.orders c.args.rule.now) in
     record {
-      good = λ yes. good_book rule before_bell c.args.self.now c.args.memory.now (sym c.is-lawful.ensures ∙ yes);
-      test = λ phase. c.is-lawful.ensures;
+      good = λ yes. good_book rule before_bell c.args.self.now c.args.memory.now (sym c.is_lawful.ensures ∙ yes);
+      test = λ phase. c.is_lawful.ensures;
     }

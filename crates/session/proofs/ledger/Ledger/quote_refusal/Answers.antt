@@ -2,8 +2,8 @@ use Rattle.std.proofs.Common.{rules}
 use Rattle.session.specs.View.{GoodBook}
 use Rattle.session.proofs.ledger.Ledger.quote_refusal.Goals as goal
 
-pub returns-then-free-places-self : goal.returns-then-free-places-self
-returns-then-free-places-self g c =
+pub returns-then-free_places-self : goal.returns-then-free_places-self
+returns-then-free_places-self g c =
     let book : GoodBook c.args.self.now c.args.memory.now = c.lawful.ensures.good c.if-not-lawful.false in
     search rules
 

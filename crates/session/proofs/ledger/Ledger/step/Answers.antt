@@ -11,8 +11,8 @@ returns-in-Some g c = refused _ trading _ _ _ _ (c.in-Some.ensures.first trading
 pub returns : goal.returns
 unfolding clock_step
 returns g c =
-    answered _ _ _ _ _ _ _ _ c.set-clock-late.ensures.late
-    (accepted _ trading _ _ trading _ _ _ _ (c.in-default.ensures.first trading refl)
-    (watched (stepped c.args.time) _ _ _ _ c.set-clock-late.ensures.became _ c.settle.ensures)
-    c.set-clock-late.ensures.became.longer
-    (left_behind (stepped c.args.time) _ _ _ _ c.set-clock-late.ensures.became _ c.settle.ensures))
+    answered _ _ _ _ _ _ _ _ c.set_clock-late.ensures.late
+    (accepted _ trading _ _ trading _ _ _ _ (c.in_default.ensures.first trading refl)
+    (watched (stepped c.args.time) _ _ _ _ c.set_clock-late.ensures.became _ c.settle.ensures)
+    c.set_clock-late.ensures.became.longer
+    (left_behind (stepped c.args.time) _ _ _ _ c.set_clock-late.ensures.became _ c.settle.ensures))

@@ -10,7 +10,7 @@ returns-in-Some g c = refused _ trading _ _ _ _ (c.in-Some.ensures.first trading
 pub returns : goal.returns
 unfolding withdrawal_step
 returns g c =
-    accepted _ trading _ _ trading _ _ _ _ (c.in-default.ensures.first trading)
-    (watched (withdrawn c.args.dealer) _ _ _ _ c.take-out.ensures _ c.settle.ensures)
-    c.take-out.ensures.longer
-    (left_behind (withdrawn c.args.dealer) _ _ _ _ c.take-out.ensures _ c.settle.ensures)
+    accepted _ trading _ _ trading _ _ _ _ (c.in_default.ensures.first trading)
+    (watched (withdrawn c.args.dealer) _ _ _ _ c.take_out.ensures _ c.settle.ensures)
+    c.take_out.ensures.longer
+    (left_behind (withdrawn c.args.dealer) _ _ _ _ c.take_out.ensures _ c.settle.ensures)

@@ -12,8 +12,8 @@ stands-requires-else-stands g c =
     let book : GoodBook c.args.self.now c.args.memory.now = c.lawful.ensures.good c.if-not-lawful.false in
     omega arith
 
-pub returns-then-free-places-lt1 : goal.returns-then-free-places-lt1
-returns-then-free-places-lt1 g c =
+pub returns-then-free_places-lt1 : goal.returns-then-free_places-lt1
+returns-then-free_places-lt1 g c =
     let book : GoodBook c.args.self.now c.args.memory.now = c.lawful.ensures.good c.if-not-lawful.false in
     search rules
 
