@@ -3,10 +3,10 @@ use Rattle.std.proofs.lemmas.Result.{err_from_is_err_and}
 use Rattle.day.proofs.Layers.{past_misread}
 use Rattle.day.proofs.days.refuse_at.Goals as goal
 
-pub returns-in_err--event : goal.returns-in_err--event
-returns-in_err--event c =
+pub returns-in_err-_event : goal.returns-in_err-_event
+returns-in_err-_event c =
     let p = err_from_is_err_and c.from_residual.result c.from_residual.ensures.1 in
-    past_misread c.args.place c.args.bytes.now c.in_err--event.field-0.0 c.in_err--event.ensures c.from_residual.result p.0 p.1 p.2
+    past_misread c.args.place c.args.bytes.now c.in_err-_event.field-0.0 c.in_err-_event.ensures c.from_residual.result p.0 p.1 p.2
 
 pub returns : goal.returns
-returns c = (Ok c.in_ok--event.-event, c.in_ok--event.ensures, ap Err c.from.ensures)
+returns c = (Ok c.in_ok-_event._event, c.in_ok-_event.ensures, ap Err c.from.ensures)
