@@ -271,9 +271,9 @@ fn refuses<R: Rule>(
     let _ = put_second(&mut memory, side, right);
     let (session, restored_later) = call_all(session, rule, &mut memory, &LATER);
     let _ = session.end();
-    assert_eq!(rt; before?, after?);
-    assert_eq!(rt; [spoilt, restored], [[0, 4], [4, 0]]);
-    assert_eq!(rt; [spoilt_later, restored_later], [[0, 2], [2, 0]]);
+    assert_eq!(rt; before?, after?, "with {second:?}");
+    assert_eq!(rt; [spoilt, restored], [[0, 4], [4, 0]], "with {second:?}");
+    assert_eq!(rt; [spoilt_later, restored_later], [[0, 2], [2, 0]], "with {second:?}");
     Ok(())
 }
 
@@ -299,11 +299,11 @@ const WRONG: [SecondRow; 12] = [
 #[test]
 fn an_unlawful_book_is_refused(rt: HostRuntime) -> Result<(), Fail> {
     let heap = rt.alloc();
-    for (place, row) in WRONG.iter().enumerate() {
+    for row in &WRONG {
         let (side, dealer, price, entered, live, arrival) = *row;
         let second = quote(dealer, price, entered, live, arrival);
-        refuses(&rt, heap, &Time, side, second).note(format_args!("quote {place}"))?;
-        refuses(&rt, heap, &Size, side, second).note(format_args!("quote {place}"))?;
+        refuses(&rt, heap, &Time, side, second)?;
+        refuses(&rt, heap, &Size, side, second)?;
     }
     // Twice the same dealer: the first bid is of dealer 1 under Time, and of dealer 2 under Size.
     refuses(&rt, heap, &Time, Side::Buy, quote(1, 4880, 2000, 2000, 1))?;
