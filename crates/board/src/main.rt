@@ -1,5 +1,6 @@
 // Runs an event file as a day, and prints a line for each record: `board FILE`.
 #![tactic(auto)]
+
 use anyhow::anyhow;
 use book::duties::Duties;
 use book::memory::Memory;

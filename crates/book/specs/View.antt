@@ -1,5 +1,5 @@
 -- The lent memory, as lists. Assumes nothing.
-use Rattle.std.specs.Prelude.{ℕ, ◌-◌, ◌≤◌, Bool, not, List, length, take, drop, ◌==◌}
+use Rattle.std.specs.Prelude.{ℕ, ◌≤◌, Bool, not, List, length, take, drop, ◌==◌}
 use Rattle.std.specs.List.{list_all}
 use Rattle.market.specs.Precedence.{QuotePrecedence, OrderPrecedence, Precedence}
 use Rattle.market.specs.State.{Lists, Sizes}

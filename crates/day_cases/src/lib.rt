@@ -1,5 +1,6 @@
 // Tests of the session and the day, in tables.
 #![tactic(auto)]
+
 #[cfg(test)]
 mod days;
 #[cfg(test)]

@@ -273,7 +273,11 @@ fn refuses<R: Rule>(
     let _ = session.end();
     assert_eq!(rt; before?, after?, "with {second:?}");
     assert_eq!(rt; [spoilt, restored], [[0, 4], [4, 0]], "with {second:?}");
-    assert_eq!(rt; [spoilt_later, restored_later], [[0, 2], [2, 0]], "with {second:?}");
+    assert_eq!(rt;
+        [spoilt_later, restored_later],
+        [[0, 2], [2, 0]],
+        "with {second:?}"
+    );
     Ok(())
 }
 

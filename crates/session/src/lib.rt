@@ -1,5 +1,6 @@
 // One session, from its making to its close. Its phases are types, and the caller lends the memory at each call.
 #![tactic(auto)]
+
 mod accepting;
 mod events;
 pub mod ledger;

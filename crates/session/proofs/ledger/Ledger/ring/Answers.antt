@@ -1,4 +1,4 @@
-use Rattle.std.proofs.Common.{cond, not, drop, Some, None, refl, ap, arith}
+use Rattle.std.proofs.Common.{cond, not, drop, Some, None, ap, arith}
 use Rattle.market.specs.declared.Refusal.{Refusal}
 use Rattle.market.specs.State.{before_bell, trading}
 use Rattle.market.specs.Events.{bell_step}
