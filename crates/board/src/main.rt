@@ -7,6 +7,7 @@ use book::memory::Memory;
 use market::{Duty, Order, Quote, TapeRecord};
 use report::{Report, SummaryLine, run_file};
 use std::alloc::{AllocError, Global};
+use std::process::ExitCode;
 use std::{env, fs};
 
 mod report;
@@ -82,14 +83,22 @@ fn print(rt: &HostRuntime, path: &str) -> anyhow::Result<()> {
     Ok(())
 }
 
-fn main(rt: HostRuntime) -> anyhow::Result<()> {
-    let mut args = env::args(&rt)?;
+fn run_with(rt: &HostRuntime) -> anyhow::Result<()> {
+    let mut args = env::args(rt)?;
     let _program = args.next();
     match (args.next(), args.next()) {
-        (Some(path), None) => print(&rt, path.as_str()),
+        (Some(path), None) => print(rt, path.as_str()),
         _ => {
             eprintln!(rt; "usage: board FILE")?;
             Err(anyhow!("usage: board FILE"))
         }
+    }
+}
+
+// A call without a file that can be read has been told so in a line of its own: here only the status says it again.
+fn main(rt: HostRuntime) -> ExitCode {
+    match run_with(&rt) {
+        Ok(()) => ExitCode::SUCCESS,
+        Err(_) => ExitCode::FAILURE,
     }
 }

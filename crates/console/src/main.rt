@@ -3,6 +3,7 @@
 
 use anyhow::anyhow;
 use listing::listing;
+use std::process::ExitCode;
 use std::{env, fs};
 
 mod listing;
@@ -28,14 +29,22 @@ fn list(rt: &HostRuntime, path: &str) -> anyhow::Result<()> {
     Ok(())
 }
 
-fn main(rt: HostRuntime) -> anyhow::Result<()> {
-    let mut args = env::args(&rt)?;
+fn run_with(rt: &HostRuntime) -> anyhow::Result<()> {
+    let mut args = env::args(rt)?;
     let _program = args.next();
     match (args.next(), args.next()) {
-        (Some(path), None) => list(&rt, path.as_str()),
+        (Some(path), None) => list(rt, path.as_str()),
         _ => {
             eprintln!(rt; "usage: console FILE")?;
             Err(anyhow!("usage: console FILE"))
         }
+    }
+}
+
+// A call without a file that can be read has been told so in a line of its own: here only the status says it again.
+fn main(rt: HostRuntime) -> ExitCode {
+    match run_with(&rt) {
+        Ok(()) => ExitCode::SUCCESS,
+        Err(_) => ExitCode::FAILURE,
     }
 }
