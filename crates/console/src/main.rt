@@ -41,7 +41,8 @@ fn run_with(rt: &HostRuntime) -> anyhow::Result<()> {
     }
 }
 
-// A call without a file that can be read has been told so in a line of its own: here only the status says it again.
+// Gives the status alone. What is wrong with the call or its file has its line on standard error by then, and where a line
+// can't be written there is nowhere to say so.
 fn main(rt: HostRuntime) -> ExitCode {
     match run_with(&rt) {
         Ok(()) => ExitCode::SUCCESS,
