@@ -1,10 +1,11 @@
--- Duties by dealer: a loop that changes them one after another, and one that tells who is late. Assumes nothing.
-use Rattle.std.proofs.Common.{◌≡◌, ℕ, suc, ◌+◌, ◌-◌, ◌<◌, ◌≤◌, cond, List, [], ◌∷◌, ◌++◌, length, get_or, take, drop, set, is_some, Some, None, Option, sym, refl, ap, ◌∙◌, inl, inr, arith}
-use Rattle.std.proofs.lemmas.List.{append_assoc, append-nil, length-append, length-take-le, drop_more, take_more, set_at, get_or_at, take_more_set, drop-set-lt, take_all, drop_all, set_past, get_or_past, take-take, take-append-drop, drop-drop}
+-- Duties by dealer: a loop that changes those of the first dealers, and one that tells who is late. Assumes nothing.
+use Rattle.std.proofs.Common.{◌≡◌, ℕ, suc, ◌+◌, ◌-◌, ◌<◌, ◌≤◌, cond, List, [], ◌∷◌, ◌++◌, length, get_or, take, drop, set, is_some, Some, None, count_by, min, Option, sym, refl, ap, ◌∙◌, inl, inr, arith, rules}
+use Rattle.std.proofs.lemmas.List.{append_assoc, append-nil, length-append, length-take-le, drop_more, take_more, set_at, get_or_at, take_more_set, drop-set-lt, take_all, drop_all, set_past, places, same_lists, set-get_or, take-take, take-append-drop, drop-drop}
+use borrow.Rule.Slice.PartMut.{put_mid}
 use Rattle.std.proofs.lemmas.Bool.{cases_lt}
+use Rattle.std.proofs.lemmas.List.Recursion.{is_count_by}
 use Rattle.market.specs.declared.Duty.{Duty}
 use Rattle.market.specs.declared.TapeRecord.{TapeRecord}
-use Rattle.book.specs.Tape.{written_at}
 use Rattle.market.specs.Events.{numbered, of_dealers, missed_time, late_record, late_records}
 
 length_numbered : {A B : Type 0} (f : ℕ → A → B) (n : ℕ) (xs : List A) → length (numbered f n xs) ≡ length xs
@@ -38,16 +39,58 @@ past_all : (f : ℕ → Duty → Duty) (ds : List Duty) (i : ℕ) → length ds 
 past_all f ds i h = rw (take_all i ds h, drop_all i ds h) (append-nil (numbered f 1 ds))
 
 -- the duty at place i, of dealer i + 1, is changed where those before it are
-pub of_dealers_more : (f : ℕ → Duty → Duty) (ds zs : List Duty) (i : ℕ) (e v : Duty) → zs ≡ of_dealers f i ds → v ≡ f (i + 1) (get_or zs i e) → set zs (i + 1 - 1) v ≡ of_dealers f (i + 1) ds
+of_dealers_more : (f : ℕ → Duty → Duty) (ds zs : List Duty) (i : ℕ) (e v : Duty) → zs ≡ of_dealers f i ds → v ≡ f (i + 1) (get_or zs i e) → set zs i v ≡ of_dealers f (i + 1) ds
 of_dealers_more f ds zs i e v is changed =
-    let at : i + 1 - 1 ≡ i = omega arith in
-    ap (λ k. set zs k v) at ∙ elim (cases_lt i (length ds)) [
+    elim (cases_lt i (length ds)) [
       | inl h ↦ within_more f ds zs i e v h is changed
       | inr h ↦
           let all = is ∙ past_all f ds i h in
           let short : length zs ≤ i = rw (all, length_numbered f 1 ds) h in
           set_past zs i v short ∙ all ∙ sym (past_all f ds (i + 1) (omega arith))
     ]
+
+module _ (f : ℕ → Duty → Duty) (ds : List Duty) (dealers : ℕ) where
+  -- one dealer more
+  pub one_more : (zs : List Duty) (i : ℕ) (e v : Duty) → i < dealers → zs ≡ of_dealers f (min i dealers) ds → v ≡ f (i + 1) (get_or zs i e) → set zs i v ≡ of_dealers f (min (i + 1) dealers) ds
+  one_more zs i e v h is changed =
+      let here : min i dealers ≡ i = omega arith in
+      let next : min (i + 1) dealers ≡ i + 1 = omega arith in
+      rw next (of_dealers_more f ds zs i e v (rw here at is) changed)
+
+  -- behind the last dealer nothing changes
+  pub no_more : (zs : List Duty) (i : ℕ) (e : Duty) → dealers ≤ i → zs ≡ of_dealers f (min i dealers) ds → set zs i (get_or zs i e) ≡ of_dealers f (min (i + 1) dealers) ds
+  no_more zs i e h is = let same : min i dealers ≡ min (i + 1) dealers = omega arith in set-get_or zs i e ∙ rw (← same) is
+
+  -- at the end of the duties
+  pub at_end : (zs : List Duty) (i : ℕ) → length ds ≤ i → zs ≡ of_dealers f (min i dealers) ds → zs ≡ of_dealers f dealers ds
+  at_end zs i h is =
+      elim (cases_lt i dealers) [
+        | inl k ↦
+            let here : min i dealers ≡ i = omega arith in
+            rw here at is ∙ past_all f ds i h ∙ sym (past_all f ds dealers (omega arith))
+        | inr k ↦ let here : min i dealers ≡ dealers = omega arith in rw here at is
+      ]
+
+length_late : (t d : ℕ) (o : Option ℕ) → length (late_record t d o) ≡ cond (is_some o) 1 0
+length_late t d None = refl
+length_late t d (Some x) = refl
+
+-- whether a dealer is late, for each of these
+abbrev lates : (t : ℕ) → List Duty → ℕ
+lates t [] = 0
+lates t (d ∷ ds) = cond (is_some (missed_time t d)) (1 + lates t ds) (lates t ds)
+
+lates_are : (t n : ℕ) (ds : List Duty) → length (late_records t n ds) ≡ lates t ds
+lates_are t n [] = refl
+lates_are t n (d ∷ ds) =
+    let all = length-append (late_record t n (missed_time t d)) (late_records t (n + 1) ds) in
+    let one = length_late t n (missed_time t d) in
+    let rest = lates_are t (n + 1) ds in
+    grind (arith, all, one, rest)
+
+-- how many are late
+pub late_count : (t n : ℕ) (ds : List Duty) → length (late_records t n ds) ≡ count_by (λ d. is_some (missed_time t d)) ds
+late_count t n ds = lates_are t n ds ∙ is_count_by (lates t) (λ d. is_some (missed_time t d)) refl (λ d zs. refl) ds
 
 late_push : (t n : ℕ) (xs : List Duty) (y : Duty) → late_records t n (xs ++ y ∷ []) ≡ late_records t n xs ++ late_record t (n + length xs) (missed_time t y)
 late_push t n [] y = let e : n ≡ n + 0 = omega arith in append-nil (late_record t n (missed_time t y)) ∙ ap (λ k. late_record t k (missed_time t y)) e
@@ -64,28 +107,6 @@ within_late t ds i e o h is =
     ∙ ap (λ k. late_records t 1 (take i ds) ++ late_record t k (missed_time t (get_or ds i e))) number
     ∙ ap (λ p. late_records t 1 (take i ds) ++ late_record t (i + 1) p) (sym is)
 
--- one dealer more
-pub late_more : (t : ℕ) (ds : List Duty) (i : ℕ) (o : Option ℕ) → o ≡ missed_time t (get_or ds i Duty.InOrder) → late_records t 1 (take (i + 1) ds) ≡ late_records t 1 (take i ds) ++ late_record t (i + 1) o
-late_more t ds i o is =
-    elim (cases_lt i (length ds)) [
-      | inl h ↦ within_late t ds i Duty.InOrder o h is
-      | inr h ↦
-          let all : take (i + 1) ds ≡ take i ds = take_all (i + 1) ds (omega arith) ∙ sym (take_all i ds h) in
-          let none : o ≡ None = is ∙ ap (missed_time t) (get_or_past ds i Duty.InOrder h) in
-          ap (late_records t 1) all ∙ sym (append-nil (late_records t 1 (take i ds))) ∙ ap (λ p. late_records t 1 (take i ds) ++ late_record t (i + 1) p) (sym none)
-    ]
-
-length_late : (t d : ℕ) (o : Option ℕ) → length (late_record t d o) ≡ cond (is_some o) 1 0
-length_late t d None = refl
-length_late t d (Some x) = refl
-
--- how many are late, with one dealer more
-pub late_count : (t : ℕ) (ds : List Duty) (i : ℕ) (o : Option ℕ) → o ≡ missed_time t (get_or ds i Duty.InOrder) → length (late_records t 1 (take (i + 1) ds)) ≡ length (late_records t 1 (take i ds)) + cond (is_some o) 1 0
-late_count t ds i o is =
-    ap length (late_more t ds i o is)
-    ∙ length-append (late_records t 1 (take i ds)) (late_record t (i + 1) o)
-    ∙ ap (λ k. length (late_records t 1 (take i ds)) + k) (length_late t (i + 1) o)
-
 late_append : (t n : ℕ) (xs ys : List Duty) → late_records t n (xs ++ ys) ≡ late_records t n xs ++ late_records t (n + length xs) ys
 late_append t n [] ys = let e : n ≡ n + 0 = omega arith in ap (λ k. late_records t k ys) e
 late_append t n (x ∷ xs) ys =
@@ -100,57 +121,55 @@ late_grows t ds i n h =
     let told = ap length (ap (late_records t 1) parts ∙ late_append t 1 (take i ds) (drop i (take n ds))) ∙ length-append (late_records t 1 (take i ds)) (late_records t (1 + length (take i ds)) (drop i (take n ds))) in
     omega arith
 
--- what a loop that tells who is late has written after i dealers: `tape` had `count` records, and now has `now_count`
-pub record Told (t : ℕ) (ds : List Duty) (tape now_tape : List TapeRecord) (count now_count i : ℕ) : Type 0 where
-  pub counted : now_count ≡ count + length (late_records t 1 (take i ds))
-  pub written : take now_count now_tape ≡ take count tape ++ late_records t 1 (take i ds)
-  pub behind : drop now_count now_tape ≡ drop now_count tape
+-- what a loop that tells who is late has written after i dealers, to the free places of a tape
+pub record Told (t : ℕ) (ds : List Duty) (free now_free : List TapeRecord) (told i : ℕ) : Type 0 where
+  pub counted : told ≡ length (late_records t 1 (take i ds))
+  pub written : take told now_free ≡ late_records t 1 (take i ds)
+  pub behind : drop told now_free ≡ drop told free
 
-module _ (t : ℕ) (ds : List Duty) (tape : List TapeRecord) (count : ℕ) where
-  pub told_none : Told t ds tape tape count count 0
-  told_none = record { counted = omega arith; written = sym (append-nil (take count tape)); behind = refl }
+module _ (t : ℕ) (ds : List Duty) (free : List TapeRecord) where
+  pub told_none : Told t ds free free 0 0
+  told_none = record { counted = refl; written = refl; behind = refl }
 
-  -- room for what is told of one dealer more
-  pub told_room : (now_tape : List TapeRecord) (now_count i n : ℕ) → i < n → count + length (late_records t 1 (take n ds)) ≤ length tape → Told t ds tape now_tape count now_count i → now_count + length (late_record t (i + 1) (missed_time t (get_or ds i Duty.InOrder))) ≤ length tape
-  told_room now_tape now_count i n h room s =
-      let more = late_count t ds i (missed_time t (get_or ds i Duty.InOrder)) refl in
-      let one = length_late t (i + 1) (missed_time t (get_or ds i Duty.InOrder)) in
-      let grows = late_grows t ds (i + 1) n (omega arith) in
-      let counted = s.counted in
-      omega arith
+  module _ (now_free : List TapeRecord) (told i : ℕ) (h : i < length ds) where
+    -- a dealer that is in time
+    pub told_same : None ≡ missed_time t (get_or ds i Duty.InOrder) → Told t ds free now_free told i → Told t ds free now_free told (i + 1)
+    told_same is s =
+        let same : late_records t 1 (take i ds) ≡ late_records t 1 (take (i + 1) ds) = sym (within_late t ds i Duty.InOrder None h is ∙ append-nil (late_records t 1 (take i ds))) in
+        record { counted = s.counted ∙ ap length same; written = s.written ∙ same; behind = s.behind }
 
-  told_same : (now_tape : List TapeRecord) (now_count i : ℕ) → None ≡ missed_time t (get_or ds i Duty.InOrder) → Told t ds tape now_tape count now_count i → Told t ds tape now_tape count now_count (i + 1)
-  told_same now_tape now_count i is s =
-      let same : late_records t 1 (take i ds) ≡ late_records t 1 (take (i + 1) ds) = sym (late_more t ds i None is ∙ append-nil (late_records t 1 (take i ds))) in
-      record {
-        counted = s.counted ∙ ap (λ rs. count + length rs) same;
-        written = s.written ∙ ap (λ rs. take count tape ++ rs) same;
-        behind = s.behind;
-      }
+    module _ (u : ℕ) (is : Some u ≡ missed_time t (get_or ds i Duty.InOrder)) (room : length (late_records t 1 ds) ≤ length free) (s : Told t ds free now_free told i) where
+      -- one that is late has its place
+      pub told_room : told < length free
+      told_room =
+          let one = ap length (within_late t ds i Duty.InOrder (Some u) h is) ∙ length-append (late_records t 1 (take i ds)) (late_record t (i + 1) (Some u)) in
+          let grows = late_grows t ds (i + 1) (length ds) (omega arith) in
+          let all = ap (λ zs. length (late_records t 1 zs)) (take_all (length ds) ds (omega arith)) in
+          let counted = s.counted in
+          omega arith
 
-  told_more : (now_tape : List TapeRecord) (now_count i u : ℕ) → Some u ≡ missed_time t (get_or ds i Duty.InOrder) → now_count < length now_tape → Told t ds tape now_tape count now_count i → Told t ds tape (set now_tape now_count (TapeRecord.Late t (i + 1) u)) count (now_count + 1) (i + 1)
-  told_more now_tape now_count i u is room s =
-      let r = TapeRecord.Late t (i + 1) u in
-      let more : late_records t 1 (take (i + 1) ds) ≡ late_records t 1 (take i ds) ++ r ∷ [] = late_more t ds i (Some u) is in
-      let longer = late_count t ds i (Some u) is in
-      record {
-        counted = let counted = s.counted in omega arith;
-        written =
-            take_more_set now_tape now_count r room
-            ∙ ap (λ rs. rs ++ r ∷ []) s.written
-            ∙ append_assoc (take count tape) (late_records t 1 (take i ds)) (r ∷ [])
-            ∙ ap (λ rs. take count tape ++ rs) (sym more);
-        behind =
-            drop-set-lt (now_count + 1) now_tape now_count r (omega arith)
-            ∙ sym (drop-drop 1 now_count now_tape)
-            ∙ ap (drop 1) s.behind
-            ∙ drop-drop 1 now_count tape;
-      }
+      -- and its record
+      pub told_more : told < length now_free → Told t ds free (set now_free told (TapeRecord.Late t (i + 1) u)) (told + 1) (i + 1)
+      told_more fits =
+          let r = TapeRecord.Late t (i + 1) u in
+          let more : late_records t 1 (take (i + 1) ds) ≡ late_records t 1 (take i ds) ++ r ∷ [] = within_late t ds i Duty.InOrder (Some u) h is in
+          let longer = ap length more ∙ length-append (late_records t 1 (take i ds)) (r ∷ []) in
+          record {
+            counted = let counted = s.counted in omega arith;
+            written = take_more_set now_free told r fits ∙ ap (λ rs. rs ++ r ∷ []) s.written ∙ sym more;
+            behind =
+                drop-set-lt (told + 1) now_free told r (omega arith)
+                ∙ sym (drop-drop 1 told now_free)
+                ∙ ap (drop 1) s.behind
+                ∙ drop-drop 1 told free;
+          }
 
-  -- one dealer more
-  pub told_step : (now_tape then_tape : List TapeRecord) (now_count then_count i : ℕ) → now_count + length (late_record t (i + 1) (missed_time t (get_or ds i Duty.InOrder))) ≤ length now_tape → then_count ≡ now_count + length (late_record t (i + 1) (missed_time t (get_or ds i Duty.InOrder))) → then_tape ≡ written_at now_count (late_record t (i + 1) (missed_time t (get_or ds i Duty.InOrder))) now_tape → Told t ds tape now_tape count now_count i → Told t ds tape then_tape count then_count (i + 1)
-  told_step now_tape then_tape now_count then_count i room counts writes s = at (missed_time t (get_or ds i Duty.InOrder)) refl room counts writes
-    where
-      at : (o : Option ℕ) → o ≡ missed_time t (get_or ds i Duty.InOrder) → now_count + length (late_record t (i + 1) o) ≤ length now_tape → then_count ≡ now_count + length (late_record t (i + 1) o) → then_tape ≡ written_at now_count (late_record t (i + 1) o) now_tape → Told t ds tape then_tape count then_count (i + 1)
-      at None is r c w = let same : then_count ≡ now_count = omega arith in rw (w, same) (told_same now_tape now_count i is s)
-      at (Some u) is r c w = let next : then_count ≡ now_count + 1 = omega arith in rw (w, next) (told_more now_tape now_count i u is (omega arith) s)
+-- ---- a tape of which the free places were written to
+
+module _ (xs free : List TapeRecord) (count r : ℕ) (h : count ≤ length xs) (same : length free ≡ length xs - count) (fits : r ≤ length free) where
+  pub written_front : take (count + r) (put_mid count (length xs - count) xs free) ≡ take count xs ++ take r free
+  written_front = same_lists _ _ (search (rules, places)) (λ i d l. grind (arith, places))
+
+  pub written_behind : drop r free ≡ drop r (take (length xs - count) (drop count xs)) → drop (count + r) (put_mid count (length xs - count) xs free) ≡ drop (count + r) xs
+  written_behind e =
+      same_lists _ _ (search (rules, places)) (λ i d l. let k = ap (λ zs. get_or zs i d) e in grind (arith, places, k))

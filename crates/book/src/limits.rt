@@ -13,7 +13,7 @@ pub const LARGEST_QUANTITY: u32 = 1_000_000;
 pub fn is_within(low: u32, high: u32, n: u32) -> bool
     ensures { result ≡ within low high n }
 {
-    low <= n && n <= high
+    (low..=high).contains(&n)
 }
 
 pub fn is_price(price: u32) -> bool

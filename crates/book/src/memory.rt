@@ -17,19 +17,9 @@ pub struct Memory<'a> {
     pub tape: &'a mut [TapeRecord],
 }
 
-// How many places the lists and the tape have.
-#[derive(Clone, Copy)]
-pub struct Places {
-    pub bids: usize,
-    pub asks: usize,
-    pub buys: usize,
-    pub sells: usize,
-    pub tape: usize,
-}
-
-// How many entries the lists and the tape hold.
-#[derive(Clone, Copy)]
-pub struct Counts {
+// How many places the lists and the tape have, or how many entries they hold.
+#[derive(Clone, Copy, PartialEq, Eq, Debug, Default)]
+pub struct Lengths {
     pub bids: usize,
     pub asks: usize,
     pub buys: usize,
@@ -38,10 +28,11 @@ pub struct Counts {
 }
 
 impl Memory<'_> {
-    pub fn places(&self) -> Places
+    // How many places are lent.
+    pub fn places(&self) -> Lengths
         ensures { result ≡ places_of self.now }
     {
-        Places {
+        Lengths {
             bids: self.bids.len(),
             asks: self.asks.len(),
             buys: self.buys.len(),

@@ -1,5 +1,5 @@
-// Dealers' quotes in a list of one side.
-ghost use Rattle.std.specs.Prelude.{◌≡◌, ◌+◌, ◌<◌, ◌≤◌, true, length, take, is_some, IfSome, None, MatchOption};
+// Dealers' quotes of one side.
+ghost use Rattle.std.specs.Prelude.{◌≡◌, ◌+◌, ◌<◌, ◌≤◌, true, length, take, is_some, IfSome, MatchOption};
 ghost use Rattle.std.specs.List.{remove};
 ghost use Rattle.market.specs.declared.Quote.{Quote as QuoteOf};
 ghost use Rattle.market.specs.Precedence.{quote_before};
@@ -10,74 +10,64 @@ use market::{Quote, Side};
 use precedence::list::{insert, remove};
 use precedence::rules::Rule;
 
-// What is left of a dealer's quote, 0 where it has none in the list.
-pub fn live_of(list: &[Quote], count: usize, dealer: u8) -> u32
-    requires { count ≤ length list.now }
-    ensures { result ≡ live_in (quote_by dealer (take count list.now)) }
+// What is left of a dealer's quote, 0 where it has none among these.
+pub fn live_of(quotes: &[Quote], dealer: u8) -> u32
+    ensures { result ≡ live_in (quote_by dealer quotes.now) }
 {
-    for i in 0..count {
-        if list[i].dealer == dealer {
-            return list[i].live;
-        }
+    match quotes.iter().find(|quote| quote.dealer == dealer) {
+        Some(quote) => quote.live,
+        None => 0,
     }
-    0
 }
 
 // Where a dealer's quote stands.
-fn place_of(list: &[Quote], count: usize, dealer: u8) -> Option<usize>
-    requires { count ≤ length list.now }
-    ensures within { IfSome result (λ at. at < count) }
-    ensures found { is_some result ≡ is_some (quote_by dealer (take count list.now)) }
-    ensures without { apart (λ (q : QuoteOf). q.dealer) (take count list.now) ≡ true → MatchOption result (take count list.now ≡ without dealer (take count list.now)) (λ at. remove (take count list.now) at ≡ without dealer (take count list.now)) }
+fn place_of(quotes: &[Quote], dealer: u8) -> Option<usize>
+    ensures within { IfSome result (λ at. at < length quotes.now) }
+    ensures without { apart (λ (q : QuoteOf). q.dealer) quotes.now ≡ true → MatchOption result (quotes.now ≡ without dealer quotes.now) (λ at. remove quotes.now at ≡ without dealer quotes.now) }
 {
-    for i in 0..count {
-        if list[i].dealer == dealer {
-            return Some(i);
-        }
-    }
-    None
+    quotes.iter().position(|quote| quote.dealer == dealer)
 }
 
-// Whether a dealer has a quote in the list.
-pub fn stands(list: &[Quote], count: usize, dealer: u8) -> bool
-    requires { count ≤ length list.now }
-    ensures { result ≡ is_some (quote_by dealer (take count list.now)) }
+// Whether a dealer has a quote among these.
+pub fn stands(quotes: &[Quote], dealer: u8) -> bool
+    ensures { result ≡ is_some (quote_by dealer quotes.now) }
 {
-    place_of(list, count, dealer).is_some()
+    quotes.iter().any(|quote| quote.dealer == dealer)
 }
 
-// Takes a dealer's quote out of a list in which no dealer stands twice. Gives the new count.
-pub fn withdraw(list: &mut [Quote], count: usize, dealer: u8) -> usize
-    requires within { count ≤ length list.old }
-    requires apart { apart (λ (q : QuoteOf). q.dealer) (take count list.old) ≡ true }
+// Takes a dealer's quote out of the first `count` of these places, where no dealer stands twice. Gives the new count.
+pub fn withdraw(places: &mut [Quote], count: usize, dealer: u8) -> usize
+    requires within { count ≤ length places.old }
+    requires apart { apart (λ (q : QuoteOf). q.dealer) (take count places.old) ≡ true }
     ensures bound { result ≤ count }
-    ensures count { result ≡ length (without dealer (take count list.old)) }
-    ensures list { take result list.new ≡ without dealer (take count list.old) }
+    ensures count { result ≡ length (without dealer (take count places.old)) }
+    ensures list { take result places.new ≡ without dealer (take count places.old) }
 {
-    match place_of(list, count, dealer) {
+    let quotes = &mut places[..count];
+    match place_of(quotes, dealer) {
         Some(at) => {
-            remove(list, count, at);
+            remove(quotes, at);
             count - 1
         }
         None => count,
     }
 }
 
-// Puts a quote in its place, for the one that its dealer had. Gives the new count.
+// Puts a quote in its place, for the one that its dealer had among the first `count` of these places. Gives the new count.
 pub fn replace<R: Rule>(
     rule: &R,
     side: Side,
-    list: &mut [Quote],
+    places: &mut [Quote],
     count: usize,
     quote: Quote,
 ) -> usize
-    requires within { count ≤ length list.old }
-    requires apart { apart (λ (q : QuoteOf). q.dealer) (take count list.old) ≡ true }
-    requires room { length (without quote.dealer (take count list.old)) < length list.old }
-    ensures count { result ≡ length (without quote.dealer (take count list.old)) + 1 }
-    ensures list { take result list.new ≡ placed (quote_before (R.quotes rule.now) side) quote (without quote.dealer (take count list.old)) }
+    requires within { count ≤ length places.old }
+    requires apart { apart (λ (q : QuoteOf). q.dealer) (take count places.old) ≡ true }
+    requires room { length (without quote.dealer (take count places.old)) < length places.old }
+    ensures count { result ≡ length (without quote.dealer (take count places.old)) + 1 }
+    ensures list { take result places.new ≡ placed (quote_before (R.quotes rule.now) side) quote (without quote.dealer (take count places.old)) }
 {
-    let rest = withdraw(list, count, quote.dealer);
-    insert(rule, side, list, rest, quote);
+    let rest = withdraw(places, count, quote.dealer);
+    insert(rule, side, &mut places[..rest + 1], quote);
     rest + 1
 }

@@ -1,6 +1,6 @@
 // Lists in precedence, of quotes and of orders, under both rules.
 use market::{Order, Quote, Side};
-use precedence::list::{first, in_order, insert, remove};
+use precedence::list::{Ranked, first, in_order, insert, remove};
 use precedence::rules::{Rule, Size, Time};
 
 fn quote(price: u32, entered: u32, arrival: u32) -> Quote {
@@ -22,6 +22,15 @@ fn order(price: u32, entered: u32, number: u32) -> Order {
     }
 }
 
+// Four entries as they stand when one after another was put in its place.
+fn ranked<R, T: Ranked<R>>(rule: &R, side: Side, entries: [T; 4]) -> [T; 4] {
+    let mut list = entries;
+    for (count, entry) in entries.iter().enumerate() {
+        insert(rule, side, &mut list[..count + 1], *entry);
+    }
+    list
+}
+
 // The arrival numbers of four quotes, in precedence.
 fn quotes_ranked<R: Rule>(rule: &R, side: Side) -> [u32; 4] {
     let quotes = [
@@ -30,17 +39,7 @@ fn quotes_ranked<R: Rule>(rule: &R, side: Side) -> [u32; 4] {
         quote(4900, 3000, 3),
         quote(4900, 3000, 4),
     ];
-    let mut places = quotes;
-    let list: &mut [Quote] = &mut places;
-    for (count, entry) in quotes.iter().enumerate() {
-        insert(rule, side, list, count, *entry);
-    }
-    [
-        list[0].arrival,
-        list[1].arrival,
-        list[2].arrival,
-        list[3].arrival,
-    ]
+    ranked(rule, side, quotes).map(|quote| quote.arrival)
 }
 
 // The numbers of four orders, in precedence.
@@ -51,17 +50,7 @@ fn orders_ranked<R: Rule>(rule: &R, side: Side) -> [u32; 4] {
         order(4900, 3000, 3),
         order(4900, 3000, 4),
     ];
-    let mut places = orders;
-    let list: &mut [Order] = &mut places;
-    for (count, entry) in orders.iter().enumerate() {
-        insert(rule, side, list, count, *entry);
-    }
-    [
-        list[0].number,
-        list[1].number,
-        list[2].number,
-        list[3].number,
-    ]
+    ranked(rule, side, orders).map(|order| order.number)
 }
 
 #[test]
@@ -84,23 +73,23 @@ fn a_removal_closes_the_gap(rt: HostRuntime) {
         quote(5010, 1000, 3),
         quote(1, 1, 9),
     ];
-    assert!(rt; in_order(&Time, Side::Sell, &asks, 3));
-    assert!(rt; !in_order(&Time, Side::Sell, &asks, 4));
-    assert!(rt; !in_order(&Time, Side::Buy, &asks, 3));
-    remove(&mut asks, 3, 0);
-    assert_eq!(rt; first(&asks, 2), Some(quote(5000, 1000, 2)));
-    remove(&mut asks, 2, 1);
-    assert_eq!(rt; first(&asks, 1), Some(quote(5000, 1000, 2)));
-    remove(&mut asks, 1, 0);
-    assert_eq!(rt; first(&asks, 0), None);
-    assert!(rt; in_order(&Time, Side::Sell, &asks, 0));
+    assert!(rt; in_order(&Time, Side::Sell, &asks[..3]));
+    assert!(rt; !in_order(&Time, Side::Sell, &asks));
+    assert!(rt; !in_order(&Time, Side::Buy, &asks[..3]));
+    remove(&mut asks[..3], 0);
+    assert_eq!(rt; first(&asks[..2]), Some(quote(5000, 1000, 2)));
+    remove(&mut asks[..2], 1);
+    assert_eq!(rt; first(&asks[..1]), Some(quote(5000, 1000, 2)));
+    remove(&mut asks[..1], 0);
+    assert_eq!(rt; first(&asks[..0]), None);
+    assert!(rt; in_order(&Time, Side::Sell, &asks[..0]));
     assert_eq!(rt; asks[3], quote(1, 1, 9));
 }
 
 #[test]
 fn equal_entries_are_in_no_order(rt: HostRuntime) {
     let same = [order(4900, 1000, 7), order(4900, 1000, 7)];
-    assert!(rt; !in_order(&Time, Side::Buy, &same, 2));
-    assert!(rt; !in_order(&Size, Side::Sell, &same, 2));
-    assert!(rt; in_order(&Size, Side::Sell, &same, 1));
+    assert!(rt; !in_order(&Time, Side::Buy, &same));
+    assert!(rt; !in_order(&Size, Side::Sell, &same));
+    assert!(rt; in_order(&Size, Side::Sell, &same[..1]));
 }

@@ -4,7 +4,7 @@ use Rattle.market.specs.declared.Config.{Config}
 use Rattle.market.specs.declared.Event.{Event}
 use Rattle.market.specs.declared.Answer.{Answer}
 use Rattle.book.specs.declared.memory.Memory.{Memory}
-use Rattle.session.specs.declared.states.PreOpen.{PreOpen}
+use Rattle.session.specs.View.{PreOpen}
 use Rattle.session.specs.View.{SameMemory}
 use Rattle.day.specs.declared.stages.Ruling.{Ruling}
 use Rattle.day.specs.declared.faults.Fault.{Fault}

@@ -12,7 +12,7 @@ use Rattle.records.specs.Layout.{event_bytes, EventFits}
 use Rattle.records.specs.Reading.{Reads}
 use Rattle.book.specs.declared.memory.Memory.{Memory}
 use Rattle.book.specs.View.{rule_of}
-use Rattle.session.specs.declared.states.PreOpen.{PreOpen}
+use Rattle.session.specs.View.{PreOpen}
 use Rattle.session.specs.View.{SameMemory, Made}
 use Rattle.day.specs.declared.running.Session.{Session}
 use Rattle.day.specs.declared.running.Session.TheVariants.{Early}

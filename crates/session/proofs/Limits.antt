@@ -5,10 +5,10 @@ use Rattle.market.specs.declared.Config.{Config}
 use Rattle.market.specs.Serving.{is_whole}
 use Rattle.market.specs.State.{within}
 use Rattle.market.specs.Events.{may_be_made}
-use Rattle.book.specs.declared.memory.Places.{Places}
+use Rattle.book.specs.declared.memory.Lengths.{Lengths}
 use Rattle.book.specs.View.{sizes_of}
 
-pub record Allowed (c : Config) (p : Places) : Type 0 where
+pub record Allowed (c : Config) (p : Lengths) : Type 0 where
   pub few_dealers : c.dealers ≤ 16
   pub bid_places : p.bids ≡ 16
   pub ask_places : p.asks ≡ 16
@@ -16,7 +16,7 @@ pub record Allowed (c : Config) (p : Places) : Type 0 where
   pub sell_places : p.sells ≤ 256
   pub tape_places : p.tape ≤ 65536
 
-pub allowed : (c : Config) (p : Places) → may_be_made c (sizes_of p) ≡ true → Allowed c p
+pub allowed : (c : Config) (p : Lengths) → may_be_made c (sizes_of p) ≡ true → Allowed c p
 allowed c p h =
     let dealers = and_parts (within 2 16 c.dealers) _ h in
     let least = and_parts (within 1000 100000 c.least_quantity) _ dealers.1 in

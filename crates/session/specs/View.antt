@@ -1,5 +1,5 @@
 -- A session with the memory that is lent to it, as a state of the model, and what a call promises. Assumes nothing.
-use Rattle.std.specs.Prelude.{◌≡◌, ℕ, ◌+◌, ◌<◌, ◌≤◌, true, false, length, take, drop, IfErr, Ok, Err, Result}
+use Rattle.std.specs.Prelude.{◌≡◌, ℕ, ◌+◌, ◌<◌, ◌≤◌, true, false, length, take, drop, IfErr, Some, None, Option, Ok, Err, Result}
 use Rattle.market.specs.declared.Answer.{Answer}
 use Rattle.market.specs.declared.Refusal.{Refusal}
 use Rattle.market.specs.declared.Config.{Config}
@@ -8,11 +8,12 @@ use Rattle.market.specs.Precedence.{Precedence}
 use Rattle.market.specs.State.{Phase, before_bell, trading, State, is_dealer, apart, without}
 use Rattle.market.specs.Events.{Step, may_be_made, fresh, settled, quotes_nothing, late_records, bell_step}
 use Rattle.book.specs.declared.memory.Memory.{Memory}
-use Rattle.book.specs.declared.memory.Places.{Places}
+use Rattle.book.specs.declared.memory.Lengths.{Lengths}
 use Rattle.book.specs.View.{places_of, sizes_of, lists_of}
 use Rattle.session.specs.declared.ledger.Ledger.{Ledger}
-use Rattle.session.specs.declared.states.PreOpen.{PreOpen}
-use Rattle.session.specs.declared.states.Open.{Open}
+use Rattle.session.specs.declared.states.Session.{Session}
+use Rattle.session.specs.declared.states.BeforeBell.{BeforeBell}
+use Rattle.session.specs.declared.states.Trading.{Trading}
 
 -- a session's numbers in a phase, with the memory
 abbrev pub view : Phase → Ledger → Memory → State
@@ -29,6 +30,18 @@ view phase l m = record {
   duties = m.duties.now.states;
   tape = take l.counts.tape m.tape.now;
 }
+
+-- a session before the bell, and one that is open
+abbrev pub PreOpen : Type 0
+PreOpen = Session BeforeBell
+
+abbrev pub Open : Type 0
+Open = Session Trading
+
+-- that reason to refuse, if there is one
+abbrev pub unless_refused : Option Refusal → Result (Unit {0}) Refusal
+unless_refused None = Ok tt
+unless_refused (Some why) = Err why
 
 -- no place of the memory changed
 pub record SameMemory (m m' : Memory) : Type 0 where
@@ -108,23 +121,18 @@ pub record Became (f : State → State) (l l' : Ledger) (m m' : Memory) : Type 0
   pub leaves : drop l'.counts.tape m'.tape.now ≡ drop l'.counts.tape m.tape.now
   pub still_lent : Lent l' m'
 
--- the duties of an open session were brought up to date, and nothing else changed
-pub record Settled (l : Ledger) (m m' : Memory) : Type 0 where
-  pub settles : view trading l m' ≡ settled (view trading l m)
+-- the duties were brought up to date where the phase watches them, and nothing else changed
+pub record Settled (phase : Phase) (l : Ledger) (m m' : Memory) : Type 0 where
+  pub settles : view phase l m' ≡ settled (view phase l m)
   pub keeps_tape : m'.tape.now ≡ m.tape.now
 
--- what the bell did to a session's numbers: trading is open, or it is refused and all is as before
-abbrev pub BellRang : Precedence → Ledger → Ledger → Memory → Memory → Result (Unit {0}) Refusal → Type 0
-BellRang rule l l' m m' (Ok done) = Did (bell_step rule (view before_bell l m)) trading l l' m m' (Ok Answer.Rung)
-BellRang rule l l' m m' (Err why) = Did (bell_step rule (view before_bell l m)) before_bell l l' m m' (Err why)
-
--- what the bell did: an open session, or the one before the bell handed back with the refusal
+-- what the bell did: an open session, or the one before the bell handed back with the refusal and all as before
 abbrev pub Rang : Precedence → PreOpen → Memory → Memory → Result Open (Refusal × PreOpen) → Type 0
-Rang rule p m m' (Ok o) = BellRang rule p.ledger o.ledger m m' (Ok tt)
-Rang rule p m m' (Err back) = BellRang rule p.ledger back.1.ledger m m' (Err back.0) × (back.1 ≡ p)
+Rang rule p m m' (Ok o) = Did (bell_step rule (view before_bell p.ledger m)) trading p.ledger o.ledger m m' (Ok Answer.Rung)
+Rang rule p m m' (Err back) = Did (bell_step rule (view before_bell p.ledger m)) before_bell p.ledger back.1.ledger m m' (Err back.0) × (back.1 ≡ p)
 
 -- the numbers of a session in which nothing has happened yet
-pub record NewLedger (c : Config) (p : Places) (l : Ledger) : Type 0 where
+pub record NewLedger (c : Config) (p : Lengths) (l : Ledger) : Type 0 where
   pub from_config : l.config ≡ c
   pub from_places : l.places ≡ p
   pub no_entries : l.counts ≡ record { bids = 0; asks = 0; buys = 0; sells = 0; tape = 0 }

@@ -3,7 +3,7 @@ ghost use Rattle.std.specs.Prelude.{◌≡◌, length, take};
 ghost use Rattle.market.specs.State.{new_quote};
 ghost use Rattle.market.specs.Events.{quoted, withdrawn, duties_after, late_records, stepped};
 ghost use Rattle.book.specs.View.{rule_of};
-ghost use Rattle.session.specs.View.{Lent, MayQuote, MayWithdraw, MayStep, Became, Settled};
+ghost use Rattle.session.specs.View.{Lent, MayQuote, MayWithdraw, MayStep, Became};
 
 use crate::ledger::Ledger;
 use book::duties::Duties;
@@ -39,11 +39,9 @@ impl Ledger {
     {
         let arrival = self.counts.tape as u32 + 1;
         let bid = new_quote(dealer, pair.bid, pair.bid_quantity, arrival);
-        let bids: &mut [Quote] = memory.bids;
-        self.counts.bids = replace(rule, Side::Buy, bids, self.counts.bids, bid);
+        self.counts.bids = replace(rule, Side::Buy, memory.bids, self.counts.bids, bid);
         let ask = new_quote(dealer, pair.ask, pair.ask_quantity, arrival);
-        let asks: &mut [Quote] = memory.asks;
-        self.counts.asks = replace(rule, Side::Sell, asks, self.counts.asks, ask);
+        self.counts.asks = replace(rule, Side::Sell, memory.asks, self.counts.asks, ask);
         memory.duties.put(dealer, Duty::InOrder);
         memory.tape[self.counts.tape] = TapeRecord::Quote {
             time: self.clock,
@@ -61,10 +59,8 @@ impl Ledger {
         requires { MayWithdraw dealer self.old memory.old }
         ensures { Became (withdrawn dealer) self.old self.new memory.old memory.new }
     {
-        let bids: &mut [Quote] = memory.bids;
-        self.counts.bids = withdraw(bids, self.counts.bids, dealer);
-        let asks: &mut [Quote] = memory.asks;
-        self.counts.asks = withdraw(asks, self.counts.asks, dealer);
+        self.counts.bids = withdraw(memory.bids, self.counts.bids, dealer);
+        self.counts.asks = withdraw(memory.asks, self.counts.asks, dealer);
         memory.tape[self.counts.tape] = TapeRecord::Withdrawal {
             time: self.clock,
             dealer,
@@ -78,18 +74,17 @@ impl Ledger {
         ensures late { result ≡ length (late_records time 1 (take self.old.config.dealers memory.old.duties.now.states)) }
         ensures became { Became (stepped time) self.old self.new memory.old memory.new }
     {
-        let before = self.counts.tape;
         let duties = *memory.duties;
-        let tape: &mut [TapeRecord] = memory.tape;
-        let after = duties.tell_late(self.config.dealers, time, tape, before);
+        let count = duties.tell_late(self.config.dealers, time, memory.tape, self.counts.tape);
         memory.duties.mark_late(self.config.dealers, time);
-        self.counts.tape = after;
+        let late = count - self.counts.tape;
+        self.counts.tape = count;
         self.clock = time;
-        (after - before) as u32
+        late as u32
     }
 
     // The duties as they stand after an event in an open session.
-    fn watched(&self, memory: &Memory) -> Duties
+    pub(crate) fn watched(&self, memory: &Memory) -> Duties
         requires { Lent self.now memory.now }
         ensures { result.states ≡ duties_after self.now.clock self.now.config.dealers (take self.now.counts.bids memory.now.bids.now) (take self.now.counts.asks memory.now.asks.now) memory.now.duties.now.states }
     {
@@ -97,23 +92,9 @@ impl Ledger {
         duties.watch(
             self.config.dealers,
             self.clock,
-            memory.bids,
-            self.counts.bids,
-            memory.asks,
-            self.counts.asks,
+            &memory.bids[..self.counts.bids],
+            &memory.asks[..self.counts.asks],
         );
         duties
-    }
-
-    // Brings the duties up to date after an event in an open session, unless it is halted.
-    pub(crate) fn settle(&self, memory: &mut Memory)
-        requires { Lent self.now memory.old }
-        ensures { Settled self.now memory.old memory.new }
-    {
-        if self.halted {
-            return;
-        }
-        let duties = self.watched(memory);
-        *memory.duties = duties;
     }
 }

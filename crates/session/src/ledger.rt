@@ -1,14 +1,14 @@
 // The numbers that a session keeps: what it was made from, how much of the lent memory is in use, and the day so far.
 ghost use Rattle.std.specs.Prelude.{◌≡◌, ◌*◌, ◌≤◌};
 
-use book::memory::{Counts, Places};
+use book::memory::Lengths;
 use market::Config;
 
 #[derive(Clone, Copy)]
 pub struct Ledger {
     pub(crate) config: Config,
-    pub(crate) places: Places,
-    pub(crate) counts: Counts,
+    pub(crate) places: Lengths,
+    pub(crate) counts: Lengths,
     pub(crate) clock: u32,
     pub(crate) halted: bool,
     // The shares traded so far, and the sum of price times quantity over the trades.

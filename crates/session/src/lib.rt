@@ -2,10 +2,10 @@
 #![tactic(auto)]
 
 mod accepting;
-mod events;
+mod before_bell;
 pub mod ledger;
 mod making;
-mod pre_open;
 mod refusing;
 pub mod states;
+mod taking;
 mod trading;

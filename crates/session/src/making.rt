@@ -5,17 +5,17 @@ ghost use Rattle.book.specs.View.{sizes_of};
 ghost use Rattle.session.specs.View.{NewLedger, Made};
 
 use crate::ledger::Ledger;
-use crate::states::PreOpen;
+use crate::states::{BeforeBell, PreOpen, Session};
 use book::duties::Duties;
 use book::limits::{HIGHEST_PRICE, LOT, is_within};
-use book::memory::{Counts, Memory, Places};
+use book::memory::{Lengths, Memory};
 use market::{Config, Refusal};
 
 // The clock of a session just made: 08:30.
 const FIRST_CLOCK: u32 = 3_060_000;
 
 // Whether a session may be made with these numbers and places.
-fn may_be_made(config: &Config, places: &Places) -> bool
+fn may_be_made(config: &Config, places: &Lengths) -> bool
     ensures { result ≡ may_be_made config.now (sizes_of places.now) }
 {
     is_within(2, 16, u32::from(config.dealers))
@@ -25,30 +25,21 @@ fn may_be_made(config: &Config, places: &Places) -> bool
         && config.day_kind <= 4
         && places.bids == 16
         && places.asks == 16
-        && 1 <= places.buys
-        && places.buys <= 256
-        && 1 <= places.sells
-        && places.sells <= 256
-        && 64 <= places.tape
-        && places.tape <= 65_536
+        && (1..=256).contains(&places.buys)
+        && (1..=256).contains(&places.sells)
+        && (64..=65_536).contains(&places.tape)
 }
 
 impl Ledger {
     // The numbers of a session in which nothing has happened yet.
-    fn new(config: Config, places: Places) -> Ledger
+    fn new(config: Config, places: Lengths) -> Ledger
         requires { may_be_made config (sizes_of places) ≡ true }
         ensures { NewLedger config places result }
     {
         Ledger {
             config,
             places,
-            counts: Counts {
-                bids: 0,
-                asks: 0,
-                buys: 0,
-                sells: 0,
-                tape: 0,
-            },
+            counts: Lengths::default(),
             clock: FIRST_CLOCK,
             halted: false,
             shares: 0,
@@ -57,7 +48,7 @@ impl Ledger {
     }
 }
 
-impl PreOpen {
+impl Session<BeforeBell> {
     // A session with empty lists, an empty tape and all dealers in order; refused where a number or a length is outside its limits.
     pub fn new(config: Config, memory: &mut Memory) -> Result<PreOpen, Refusal>
         ensures { Made config memory.old memory.new result }
@@ -67,13 +58,9 @@ impl PreOpen {
             return Err(Refusal::BadConfig);
         }
         *memory.duties = Duties::all_in_order();
-        Ok(PreOpen {
+        Ok(Session {
             ledger: Ledger::new(config, places),
+            phase: BeforeBell,
         })
-    }
-
-    // Gives the session up before the bell.
-    pub fn abandon(self) {
-        let PreOpen { ledger: _ } = self;
     }
 }

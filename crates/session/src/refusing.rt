@@ -1,9 +1,9 @@
 // Why an event is refused: for each event the first reason that holds, before anything is written.
-ghost use Rattle.std.specs.Prelude.{◌≡◌, ◌-◌, ◌≤◌, true, None};
+ghost use Rattle.std.specs.Prelude.{◌≡◌, ◌-◌, ◌≤◌, true, OnOk};
 ghost use Rattle.market.specs.State.{Phase, within, is_dealer, lawful_book};
 ghost use Rattle.market.specs.Events.{first_of, bad_spread, latest_clock, quote_reasons, withdrawal_reasons, clock_reasons};
 ghost use Rattle.book.specs.View.{rule_of};
-ghost use Rattle.session.specs.View.{view, GoodBook, MayQuote, MayWithdraw, MayStep};
+ghost use Rattle.session.specs.View.{view, unless_refused, GoodBook, MayQuote, MayWithdraw, MayStep};
 
 use crate::ledger::Ledger;
 use book::lawful::is_lawful;
@@ -17,12 +17,12 @@ use precedence::rules::Rule;
 fn is_bad_spread(bid: u32, ask: u32) -> bool
     ensures { result ≡ bad_spread bid ask }
 {
-    ask <= bid || 20 * (ask as u64 - bid as u64) > ask as u64
+    ask <= bid || 20 * u64::from(ask - bid) > u64::from(ask)
 }
 
 impl Ledger {
     // Whether the book that was handed in is lawful.
-    pub(crate) fn lawful<R: Rule>(&self, rule: &R, memory: &Memory) -> bool
+    pub(crate) fn is_lawful<R: Rule>(&self, rule: &R, memory: &Memory) -> bool
         ensures good { result ≡ true → GoodBook self.now memory.now }
         ensures test { (phase : Phase) → result ≡ lawful_book (rule_of (R.quotes rule.now) (R.orders rule.now)) (view phase self.now memory.now) }
     {
@@ -38,7 +38,7 @@ impl Ledger {
     fn has_dealer(&self, dealer: u8) -> bool
         ensures { result ≡ is_dealer self.now.config.dealers dealer }
     {
-        1 <= dealer && dealer <= self.config.dealers
+        (1..=self.config.dealers).contains(&dealer)
     }
 
     fn is_quote_quantity(&self, quantity: u32) -> bool
@@ -54,89 +54,91 @@ impl Ledger {
         self.places.tape - self.counts.tape
     }
 
-    pub(crate) fn quote_refusal<R: Rule>(
+    // Whether a quote is accepted, by the first reason that holds against it.
+    pub(crate) fn may_quote<R: Rule>(
         &self,
         rule: &R,
         memory: &Memory,
         dealer: u8,
         pair: Pair,
-    ) -> Option<Refusal>
-        ensures ready { result ≡ None → MayQuote dealer self.now memory.now }
-        ensures first { (phase : Phase) → result ≡ first_of (quote_reasons (rule_of (R.quotes rule.now) (R.orders rule.now)) dealer pair (view phase self.now memory.now)) }
+    ) -> Result<(), Refusal>
+        ensures ready { OnOk result (MayQuote dealer self.now memory.now) }
+        ensures first { (phase : Phase) → result ≡ unless_refused (first_of (quote_reasons (rule_of (R.quotes rule.now) (R.orders rule.now)) dealer pair (view phase self.now memory.now))) }
     {
-        if !self.lawful(rule, memory) {
-            return Some(Refusal::UnlawfulBook);
+        if !self.is_lawful(rule, memory) {
+            return Err(Refusal::UnlawfulBook);
         }
         if self.halted {
-            return Some(Refusal::Halted);
+            return Err(Refusal::Halted);
         }
         if !self.has_dealer(dealer) {
-            return Some(Refusal::UnknownDealer);
+            return Err(Refusal::UnknownDealer);
         }
         if !(is_price(pair.bid) && is_price(pair.ask)) {
-            return Some(Refusal::PriceOutOfRange);
+            return Err(Refusal::PriceOutOfRange);
         }
         if !(self.is_quote_quantity(pair.bid_quantity)
             && self.is_quote_quantity(pair.ask_quantity))
         {
-            return Some(Refusal::QuantityOutOfRange);
+            return Err(Refusal::QuantityOutOfRange);
         }
         if is_bad_spread(pair.bid, pair.ask) {
-            return Some(Refusal::BadSpread);
+            return Err(Refusal::BadSpread);
         }
         if self.free_places() < 2 + self.counts.buys + self.counts.sells {
-            return Some(Refusal::TapeFull);
+            return Err(Refusal::TapeFull);
         }
-        None
+        Ok(())
     }
 
-    pub(crate) fn withdrawal_refusal<R: Rule>(
+    // Whether a withdrawal is accepted.
+    pub(crate) fn may_withdraw<R: Rule>(
         &self,
         rule: &R,
         memory: &Memory,
         dealer: u8,
-    ) -> Option<Refusal>
-        ensures ready { result ≡ None → MayWithdraw dealer self.now memory.now }
-        ensures first { (phase : Phase) → result ≡ first_of (withdrawal_reasons (rule_of (R.quotes rule.now) (R.orders rule.now)) dealer (view phase self.now memory.now)) }
+    ) -> Result<(), Refusal>
+        ensures ready { OnOk result (MayWithdraw dealer self.now memory.now) }
+        ensures first { (phase : Phase) → result ≡ unless_refused (first_of (withdrawal_reasons (rule_of (R.quotes rule.now) (R.orders rule.now)) dealer (view phase self.now memory.now))) }
     {
-        if !self.lawful(rule, memory) {
-            return Some(Refusal::UnlawfulBook);
+        if !self.is_lawful(rule, memory) {
+            return Err(Refusal::UnlawfulBook);
         }
         if !self.has_dealer(dealer) {
-            return Some(Refusal::UnknownDealer);
+            return Err(Refusal::UnknownDealer);
         }
-        if !(stands(memory.bids, self.counts.bids, dealer)
-            || stands(memory.asks, self.counts.asks, dealer))
+        if !(stands(&memory.bids[..self.counts.bids], dealer)
+            || stands(&memory.asks[..self.counts.asks], dealer))
         {
-            return Some(Refusal::NoQuote);
+            return Err(Refusal::NoQuote);
         }
         if self.free_places() < 1 {
-            return Some(Refusal::TapeFull);
+            return Err(Refusal::TapeFull);
         }
-        None
+        Ok(())
     }
 
-    // `latest` is the last time that a step may set in the present phase.
-    pub(crate) fn clock_refusal<R: Rule>(
+    // Whether a step of the clock is accepted, where `latest` is the last time that it may set in the present phase.
+    pub(crate) fn may_step<R: Rule>(
         &self,
         rule: &R,
         memory: &Memory,
         time: u32,
         latest: u32,
-    ) -> Option<Refusal>
+    ) -> Result<(), Refusal>
         requires { latest ≤ 5400000 }
-        ensures ready { result ≡ None → MayStep time self.now memory.now }
-        ensures first { (phase : Phase) → latest ≡ latest_clock phase → result ≡ first_of (clock_reasons (rule_of (R.quotes rule.now) (R.orders rule.now)) time (view phase self.now memory.now)) }
+        ensures ready { OnOk result (MayStep time self.now memory.now) }
+        ensures first { (phase : Phase) → latest ≡ latest_clock phase → result ≡ unless_refused (first_of (clock_reasons (rule_of (R.quotes rule.now) (R.orders rule.now)) time (view phase self.now memory.now))) }
     {
-        if !self.lawful(rule, memory) {
-            return Some(Refusal::UnlawfulBook);
+        if !self.is_lawful(rule, memory) {
+            return Err(Refusal::UnlawfulBook);
         }
         if !is_within(self.clock, latest, time) {
-            return Some(Refusal::ClockOutOfRange);
+            return Err(Refusal::ClockOutOfRange);
         }
         if self.free_places() < memory.duties.count_late(self.config.dealers, time) {
-            return Some(Refusal::TapeFull);
+            return Err(Refusal::TapeFull);
         }
-        None
+        Ok(())
     }
 }

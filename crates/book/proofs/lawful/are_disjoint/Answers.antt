@@ -1,5 +1,12 @@
-use Rattle.book.proofs.Passes.{disjoining}
+use Rattle.std.proofs.Common.{rules, tests}
+use Rattle.std.proofs.lemmas.Iterator.{YieldsList-from_slice}
+use Rattle.std.proofs.lemmas.Iterator.Search.{all_from_yields_List}
+use Rattle.book.specs.View.{lacks}
+use Rattle.book.proofs.Passes.{apart_both}
 use Rattle.book.proofs.lawful.are_disjoint.Goals as goal
 
-pub loop-i-init : goal.loop-i-init
-loop-i-init g c = disjoining g.T.Numbered.number c.args.list.now c.args.count c.args.other.now c.args.others c.requires.list
+pub returns : goal.returns
+returns g c =
+    let number = g.T.Numbered.number in
+    let is = all_from_yields_List (λ x. lacks number (number x) c.args.others.now) _ _ c.all.result c.all.ensures.ran (YieldsList-from_slice c.args.entries.now cc) (λ x b q k. search (rules, tests)) in
+    record { disjoint = is; apart = rw is (apart_both number c.args.entries.now c.args.others.now) }

@@ -1,5 +1,15 @@
-use Rattle.book.proofs.Standing.{searching}
+use Rattle.std.proofs.Common.{refl, rules, tests}
+use Rattle.std.proofs.lemmas.Iterator.{YieldsList-from_slice}
+use Rattle.std.proofs.lemmas.Iterator.Search.{find_from_yields_List}
+use Rattle.book.proofs.Standing.{his, quote_is_found}
 use Rattle.book.proofs.quotes.live_of.Goals as goal
 
-pub loop-i-init : goal.loop-i-init
-loop-i-init c = searching c.args.dealer c.args.list.now c.args.count c.requires
+pub returns-in-Some : goal.returns-in-Some
+returns-in-Some c =
+    let found = find_from_yields_List (his c.args.dealer) _ _ c.find.result c.find.ensures.ran (YieldsList-from_slice c.args.quotes.now cc) (λ x b q k. search (rules, tests)) in
+    rw (quote_is_found c.args.dealer c.args.quotes.now, ← found, c.in-Some.is) refl
+
+pub returns-in-None : goal.returns-in-None
+returns-in-None c =
+    let found = find_from_yields_List (his c.args.dealer) _ _ c.find.result c.find.ensures.ran (YieldsList-from_slice c.args.quotes.now cc) (λ x b q k. search (rules, tests)) in
+    rw (quote_is_found c.args.dealer c.args.quotes.now, ← found, c.in-None.is) refl

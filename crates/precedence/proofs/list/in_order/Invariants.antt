@@ -7,4 +7,4 @@ use Rattle.precedence.proofs.list.in_order.Given as goal
 abbrev pub invariant-loop-i : goal.invariant-loop-i
 invariant-loop-i g l =
     let b = g.T.Ranked.before l.rule l.side in
-    AllAdjacentBelow (λ x y. b x y ≡ true) l.entries l.i × Told b l.entries l.list l.count
+    AllAdjacentBelow (λ x y. b x y ≡ true) l.entries l.i × Told b l.entries

@@ -1,28 +1,18 @@
-use Rattle.std.proofs.Common.{◌≡◌, take, arith, rules}
-use Rattle.std.specs.List.{insert}
-use Rattle.market.specs.Lists.{placed}
+use Rattle.std.proofs.Common.{◌≡◌, true, false, refl, sym, ◌∙◌, rules, tests}
+use Rattle.std.proofs.lemmas.Iterator.{IsFirst-from_position, YieldsList-from_slice, index_from_first}
 use Rattle.market.proofs.InOrder.{ordered_placed}
-use Rattle.precedence.proofs.Slices.{passed_more, passed_here, passed_all}
+use Rattle.precedence.proofs.Slices.{ahead, ahead_stops, ahead_passes, placed_at}
 use Rattle.precedence.proofs.list.place.Goals as goal
 
-pub returns-then-precedes : goal.returns-then-precedes
-returns-then-precedes g c =
-    let r = c.args.rule.now in
-    let s = c.args.side in
+pub returns-clause-at : goal.returns-clause-at
+returns-clause-at g c =
+    let b = g.T.Ranked.before c.args.rule.now c.args.side in
     let x = c.args.item.now in
-    let xs = take c.args.count c.args.list.now in
-    let is : insert xs c.loop-i.i x ≡ placed (g.T.Ranked.before r s) x xs = search (rules, passed_here) in
-    record { within = omega arith; at = is; ordered = ordered_placed _ (g.met.T.Ranked.transitive r s) _ (g.met.T.Ranked.decides r s) x xs _ is }
+    let xs = c.args.entries.now in
+    let first = IsFirst-from_position _ _ _ (λ y. b x y ≡ true) (λ y. b x y ≡ false) c.position.ensures.ran (YieldsList-from_slice xs cc) (λ y q k. search (rules, tests)) (λ y q k. search (rules, tests)) in
+    let at : ahead b x xs ≡ c.unwrap_or.result = index_from_first (ahead b x) (λ y. b x y ≡ true) (λ y. b x y ≡ false) refl (ahead_stops b x) (ahead_passes b x) xs _ first ∙ sym c.unwrap_or.ensures in
+    rw (← at) (placed_at b x xs)
 
-pub loop-i-preserved : goal.loop-i-preserved
-loop-i-preserved g c =
-    passed_more (g.T.Ranked.before c.args.rule.now c.args.side) c.args.item.now c.args.list.now c.loop-i.i _ (omega arith) c.index-list-i.is c.if-precedes.ensures c.loop-i.invariant
-
-pub returns : goal.returns
-returns g c =
-    let r = c.args.rule.now in
-    let s = c.args.side in
-    let x = c.args.item.now in
-    let xs = take c.args.count c.args.list.now in
-    let is : insert xs c.args.count x ≡ placed (g.T.Ranked.before r s) x xs = search (rules, passed_all) in
-    record { within = omega arith; at = is; ordered = ordered_placed _ (g.met.T.Ranked.transitive r s) _ (g.met.T.Ranked.decides r s) x xs _ is }
+pub returns-clause-ordered : goal.returns-clause-ordered
+returns-clause-ordered g c =
+    ordered_placed _ (g.met.T.Ranked.transitive c.args.rule.now c.args.side) _ (g.met.T.Ranked.decides c.args.rule.now c.args.side) c.args.item.now c.args.entries.now _ (returns-clause-at g c)

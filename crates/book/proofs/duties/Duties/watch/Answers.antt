@@ -1,19 +1,18 @@
-use Rattle.std.proofs.Common.{◌≡◌, get_or, take, ap, ◌∙◌, arith}
-use Rattle.market.specs.declared.Duty.{Duty}
-use Rattle.market.specs.Events.{quotes_both, duty_after, duties_after}
-use Rattle.book.proofs.ByDealer.{of_dealers_more}
+use Rattle.std.proofs.Common.{rules, ap, ◌∙◌}
+use Rattle.market.specs.Events.{quotes_both, duty_after}
+use Rattle.book.proofs.ByDealer.{one_more, no_more, at_end}
+use Rattle.book.proofs.duties.Duties.watch.Goals.{then-dealer-dealers, else-dealer-dealers}
 use Rattle.book.proofs.duties.Duties.watch.Goals as goal
 
 pub loop-i-preserved : goal.loop-i-preserved
 loop-i-preserved c =
-    let bids = take c.args.bid_count c.args.bids.now in
-    let asks = take c.args.ask_count c.args.asks.now in
-    let duty = get_or c.loop-i.self.states c.loop-i.i Duty.InOrder in
-    c.put.ensures ∙ of_dealers_more (λ d. duty_after c.args.clock (quotes_both bids asks d)) _ _ _ Duty.InOrder _ c.loop-i.invariant (c.after-duty.ensures ∙ ap (λ b. duty_after c.args.clock b duty) c.quotes_both-both.ensures)
+    elim c.if-dealer-dealers.branch [
+      | then-dealer-dealers w ↦
+          rw w.duty-items-is (one_more (λ d. duty_after c.args.clock (quotes_both c.args.bids.now c.args.asks.now d)) c.args.self.now.states c.args.dealers c.loop-i.duty-items c.loop-i.i _ _ (search rules) c.loop-i.invariant (w.after.ensures ∙ ap (λ b. duty_after c.args.clock b _) w.quotes_both.ensures))
+      | else-dealer-dealers w ↦
+          rw w.duty-items-is (no_more (λ d. duty_after c.args.clock (quotes_both c.args.bids.now c.args.asks.now d)) c.args.self.now.states c.args.dealers c.loop-i.duty-items c.loop-i.i _ (search rules) c.loop-i.invariant)
+    ]
 
 pub returns : goal.returns
 returns c =
-    let bids = take c.args.bid_count c.args.bids.now in
-    let asks = take c.args.ask_count c.args.asks.now in
-    let end : c.loop-i.i ≡ c.args.dealers = omega arith in
-    c.loop-i.invariant ∙ ap (λ k. duties_after c.args.clock k bids asks c.args.self.now.states) end
+    at_end (λ d. duty_after c.args.clock (quotes_both c.args.bids.now c.args.asks.now d)) c.args.self.now.states c.args.dealers _ c.loop-i.i (search rules) c.loop-i.invariant

@@ -1,6 +1,6 @@
-use Rattle.std.proofs.Common.{◌≡◌, take}
+use Rattle.std.proofs.Common.{◌≡◌, min}
 use Rattle.market.specs.Events.{duties_after}
 use Rattle.book.proofs.duties.Duties.watch.Given as goal
 
 abbrev pub invariant-loop-i : goal.invariant-loop-i
-invariant-loop-i l = l.self.states ≡ duties_after l.clock l.i (take l.bid_count l.bids) (take l.ask_count l.asks) l.initial.self.states
+invariant-loop-i l = l.duty-items ≡ duties_after l.clock (min l.i l.dealers) l.bids l.asks l.initial.duty-items
