@@ -1,6 +1,6 @@
 // Event records.
 use market::{Event, Side};
-use records::{Malformed, read_event, write_event};
+use records::{Malformed, read, write};
 
 // A record by its value and its bytes, and which of these are judged: `#` where one value is right, `.` where any is.
 #[derive(Clone, Copy)]
@@ -92,8 +92,8 @@ const CASES: [Case; 10] = [
 #[test]
 fn each_kind_writes_and_reads(rt: HostRuntime) {
     for case in CASES {
-        assert_eq!(rt; write_event(&case.value), case.bytes);
-        assert_eq!(rt; read_event(&case.bytes), Ok(case.value));
+        assert_eq!(rt; write(&case.value), case.bytes);
+        assert_eq!(rt; read::<Event>(&case.bytes), Ok(case.value));
     }
 }
 
@@ -104,10 +104,10 @@ fn each_byte_is_judged(rt: HostRuntime) {
         for place in 0..24 {
             let mut bytes = case.bytes;
             bytes[place] = 0xee;
-            match read_event(&bytes) {
+            match read::<Event>(&bytes) {
                 Ok(value) => {
                     assert_eq!(rt; case.judged[place], b'.');
-                    assert_eq!(rt; write_event(&value), bytes);
+                    assert_eq!(rt; write(&value), bytes);
                 }
                 Err(malformed) => {
                     assert_eq!(rt; case.judged[place], b'#');
@@ -122,13 +122,13 @@ fn each_byte_is_judged(rt: HostRuntime) {
 #[test]
 fn the_first_wrong_byte_counts(rt: HostRuntime) {
     let order = b"OX\0\x01\0\0\0\x01\0\0\x13\x24\0\0\x0f\xa0\0\0\0\0\0\0\0\x01";
-    assert_eq!(rt; read_event(order), Err(Malformed::Byte { place: 1 }));
+    assert_eq!(rt; read::<Event>(order), Err(Malformed::Byte { place: 1 }));
     let bell = b"BB\x01\0\0\0\0\0\0\0\0\0\0\0\0\0\0\0\0\0\0\0\0\0";
-    assert_eq!(rt; read_event(bell), Err(Malformed::Byte { place: 1 }));
+    assert_eq!(rt; read::<Event>(bell), Err(Malformed::Byte { place: 1 }));
     let trade = b"TX\x01\x01\0\0\0\0\0\0\0\0\0\0\0\0\0\0\0\0\0\0\0\0";
-    assert_eq!(rt; read_event(trade), Err(Malformed::Byte { place: 0 }));
+    assert_eq!(rt; read::<Event>(trade), Err(Malformed::Byte { place: 0 }));
     let order = b"O-\0\0\0\0\0\0\0\0\x13\x24\0\0\x0f\xa0\0\0\0\0\0\0\0\0";
-    assert_eq!(rt; read_event(order), Err(Malformed::Byte { place: 1 }));
+    assert_eq!(rt; read::<Event>(order), Err(Malformed::Byte { place: 1 }));
 }
 
 #[test]
@@ -136,7 +136,7 @@ fn the_length_counts_before_any_byte(rt: HostRuntime) {
     let bytes = [0xee; 48];
     for found in [0, 3, 4, 23, 25, 48] {
         assert_eq!(rt;
-            read_event(&bytes[0..found]),
+            read::<Event>(&bytes[0..found]),
             Err(Malformed::Length { found })
         );
     }

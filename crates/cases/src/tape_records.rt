@@ -1,6 +1,6 @@
 // Tape records.
 use market::{Side, TapeRecord, Trade};
-use records::{Malformed, read_tape, write_tape};
+use records::{Malformed, read, write};
 
 // A record by its value and its bytes, and which of these are judged: `#` where one value is right, `.` where any is.
 #[derive(Clone, Copy)]
@@ -99,8 +99,8 @@ const CASES: [Case; 8] = [
 #[test]
 fn each_kind_writes_and_reads(rt: HostRuntime) {
     for case in CASES {
-        assert_eq!(rt; write_tape(&case.value), case.bytes);
-        assert_eq!(rt; read_tape(&case.bytes), Ok(case.value));
+        assert_eq!(rt; write(&case.value), case.bytes);
+        assert_eq!(rt; read::<TapeRecord>(&case.bytes), Ok(case.value));
     }
 }
 
@@ -111,10 +111,10 @@ fn each_byte_is_judged(rt: HostRuntime) {
         for place in 0..24 {
             let mut bytes = case.bytes;
             bytes[place] = 0xee;
-            match read_tape(&bytes) {
+            match read::<TapeRecord>(&bytes) {
                 Ok(value) => {
                     assert_eq!(rt; case.judged[place], b'.');
-                    assert_eq!(rt; write_tape(&value), bytes);
+                    assert_eq!(rt; write(&value), bytes);
                 }
                 Err(malformed) => {
                     assert_eq!(rt; case.judged[place], b'#');
@@ -128,9 +128,9 @@ fn each_byte_is_judged(rt: HostRuntime) {
 #[test]
 fn the_first_wrong_byte_counts(rt: HostRuntime) {
     let trade = b"T-\x01\x01\0\0\0\0\0\0\0\0\0\0\0\0\0\0\0\0\0\0\0\0";
-    assert_eq!(rt; read_tape(trade), Err(Malformed::Byte { place: 1 }));
+    assert_eq!(rt; read::<TapeRecord>(trade), Err(Malformed::Byte { place: 1 }));
     let making = b"MB\x01\x01\0\0\0\0\0\0\0\0\0\0\0\0\0\0\0\0\0\0\0\0";
-    assert_eq!(rt; read_tape(making), Err(Malformed::Byte { place: 0 }));
+    assert_eq!(rt; read::<TapeRecord>(making), Err(Malformed::Byte { place: 0 }));
 }
 
 #[test]
@@ -138,7 +138,7 @@ fn the_length_counts_before_any_byte(rt: HostRuntime) {
     let bytes = [0xee; 48];
     for found in [0, 3, 4, 23, 25, 48] {
         assert_eq!(rt;
-            read_tape(&bytes[0..found]),
+            read::<TapeRecord>(&bytes[0..found]),
             Err(Malformed::Length { found })
         );
     }

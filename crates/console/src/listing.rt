@@ -4,7 +4,7 @@ ghost use Rattle.console.specs.Text.{line_text};
 ghost use Rattle.console.specs.Listing.{LineOf, Lists};
 
 use market::{Event, Side};
-use records::{Malformed, RECORD_LENGTH, read_event};
+use records::{Malformed, RECORD_LENGTH, read};
 use std::alloc::{AllocError, Global};
 use std::fmt;
 
@@ -22,7 +22,7 @@ impl Line {
     {
         Line {
             place,
-            said: read_event(bytes),
+            said: read(bytes),
         }
     }
 }

@@ -4,7 +4,7 @@ use book::memory::Memory;
 use day::faults::Fault;
 use day::stages::Day;
 use market::{Answer, Event, Refusal, Summary};
-use records::{Malformed, write_event};
+use records::{Malformed, write};
 use std::alloc::Global;
 use std::process::Abort;
 use std::test::Fail;
@@ -60,9 +60,9 @@ const fn by_session(place: u32, refusal: Refusal) -> Taken {
 
 fn hand(day: &mut Day, memory: &mut Memory, record: Record) -> Taken {
     match record {
-        Record::Of(event) => day.take(memory, &write_event(&event)),
+        Record::Of(event) => day.take(memory, &write(&event)),
         Record::Wrong(place) => {
-            let mut bytes = write_event(&Event::Bell);
+            let mut bytes = write(&Event::Bell);
             if let Some(byte) = bytes.get_mut(place) {
                 *byte = 0xee;
             }
