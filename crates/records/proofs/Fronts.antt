@@ -1,6 +1,9 @@
 -- How far some record agrees with given bytes. Assumes nothing.
 use Rattle.std.proofs.Common.{◌≡◌, ℕ, zero, suc, ◌+◌, ◌-◌, ◌<◌, ◌≤◌, List, [], ◌∷◌, length, get_or, take, drop, Some, None, Err, Option, sym, refl, ap, ◌∙◌, subst, arith}
-use Rattle.std.proofs.lemmas.List.{take_all, get_or-take, take_more_same}
+use Rattle.std.specs.List.{zip, AllWithin, HoldsAt}
+use Rattle.std.specs.Option.{MatchOption}
+use Rattle.std.proofs.lemmas.List.{take_all, get_or-take}
+use Rattle.std.proofs.lemmas.Slice.Zip.{length-zip, get_or-zip}
 use Rattle.records.specs.declared.Malformed.TheVariants.{Byte}
 use Rattle.records.specs.declared.parts.Head.{Head}
 use Rattle.records.specs.Parts.{words_of, parts_of, Outlined}
@@ -14,18 +17,32 @@ apart xs ys i ne e =
     let l : i < i + 1 = omega arith in
     ne (sym (get_or-take (i + 1) xs i 0 l) ∙ ap (λ t. get_or t i 0) e ∙ get_or-take (i + 1) ys i 0 l)
 
--- how two lists of one length compare along a walk from their front
-pub record Compared (xs ys : List ℕ) : Type 0 where
-  pub differ : (i : ℕ) → (get_or xs i 0 ≡ get_or ys i 0 → ⊥) → take (i + 1) xs ≡ take (i + 1) ys → ⊥
-  pub more : (i : ℕ) → i < length xs → get_or xs i 0 ≡ get_or ys i 0 → take i xs ≡ take i ys → take (i + 1) xs ≡ take (i + 1) ys
-  pub through : (i : ℕ) → length xs ≤ i → take i xs ≡ take i ys → xs ≡ ys
+abbrev pub Same : ℕ × ℕ → Type 0
+Same p = p.0 ≡ p.1
 
-pub compared : (xs ys : List ℕ) → length xs ≡ length ys → Compared xs ys
-compared xs ys e = record {
-  differ = apart xs ys;
-  more = λ i l h a. take_more_same xs ys i 0 l (omega arith) a h;
-  through = λ i l a. sym (take_all i xs l) ∙ a ∙ take_all i ys (omega arith);
-}
+abbrev pub Apart : ℕ × ℕ → Type 0
+Apart p = p.0 ≡ p.1 → ⊥
+
+-- lists whose elements are the same up to n agree so far
+agree : (xs ys : List ℕ) (n : ℕ) → length xs ≡ length ys → AllWithin Same (zip xs ys) 0 n → take n xs ≡ take n ys
+agree xs ys zero e a = refl
+agree [] [] (suc n) e a = refl
+agree [] (y ∷ ys) (suc n) e a = absurd (omega arith)
+agree (x ∷ xs) [] (suc n) e a = absurd (omega arith)
+agree (x ∷ xs) (y ∷ ys) (suc n) e a =
+    let h : x ≡ y = a 0 (0, 0) (omega arith) (omega arith) in
+    let t : take n xs ≡ take n ys = agree xs ys n (omega arith) (λ k d l m. a (suc k) d (omega arith) (omega arith)) in
+    λ i. h i ∷ t i
+
+-- the first pair whose elements differ is where the lists part
+pub first_apart : (xs ys : List ℕ) (r : Option ℕ) → length xs ≡ length ys → MatchOption r (AllWithin Same (zip xs ys) 0 (length (zip xs ys))) (λ i. (i < length (zip xs ys)) × HoldsAt Apart (zip xs ys) i × AllWithin Same (zip xs ys) 0 i) → MatchOption r (xs ≡ ys) (λ i. (take i xs ≡ take i ys) × (take (i + 1) xs ≡ take (i + 1) ys → ⊥))
+first_apart xs ys None e a =
+    let n : length (zip xs ys) ≡ length xs = omega (arith, length-zip xs ys) in
+    sym (take_all (length (zip xs ys)) xs (omega arith)) ∙ agree xs ys (length (zip xs ys)) e a ∙ take_all (length (zip xs ys)) ys (omega arith)
+first_apart xs ys (Some i) e (l, differ, same) =
+    let n : length (zip xs ys) ≡ length xs = omega (arith, length-zip xs ys) in
+    let z : get_or (zip xs ys) i (0, 0) ≡ (get_or xs i 0, get_or ys i 0) = get_or-zip xs ys i (0, 0) (omega arith) (omega arith) in
+    (agree xs ys i e same, apart xs ys i (λ h. differ (0, 0) (ap (λ p. p.0) z ∙ h ∙ sym (ap (λ p. p.1) z))))
 
 -- a record is its first four bytes and the rest
 pub whole : (xs w : List ℕ) (h : Head) → 4 ≤ length xs → h.kind ≡ get_or xs 0 0 → h.side ≡ get_or xs 1 0 → h.dealer ≡ get_or xs 2 0 → h.zero ≡ get_or xs 3 0 → take (length xs - 4) (drop 4 xs) ≡ words_of w → xs ≡ parts_of h w

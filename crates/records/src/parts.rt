@@ -89,10 +89,5 @@ pub fn first_difference(a: &[u8], b: &[u8]) -> Option<usize>
     requires { length a.now ≡ length b.now }
     ensures { MatchOption result (a.now ≡ b.now) (λ i. (take i a.now ≡ take i b.now) × (take (i + 1) a.now ≢ take (i + 1) b.now)) }
 {
-    for (place, x) in a.iter().enumerate() {
-        if *x != b[place] {
-            return Some(place);
-        }
-    }
-    None
+    a.iter().zip(b).position(|(x, y)| x != y)
 }
