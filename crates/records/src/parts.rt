@@ -26,10 +26,8 @@ pub const NO_SIDE: u8 = b'-';
 fn word(bytes: &[u8]) -> Option<(u32, &[u8])>
     ensures { MatchOption result (length bytes.now < 4) (λ p. bytes.now ≡ word_bytes p.0 ++ p.1.now) }
 {
-    match bytes {
-        [w, x, y, z, rest @ ..] => Some((u32::from_be_bytes([*w, *x, *y, *z]), rest)),
-        _ => None,
-    }
+    let (word, rest) = bytes.split_first_chunk()?;
+    Some((u32::from_be_bytes(*word), rest))
 }
 
 // The five words that the rest of a record is made of.
@@ -41,11 +39,7 @@ pub fn five_words(rest: &[u8]) -> Option<Words>
     let (b, rest) = word(rest)?;
     let (c, rest) = word(rest)?;
     let (d, rest) = word(rest)?;
-    if rest.is_empty() {
-        Some([time, a, b, c, d])
-    } else {
-        None
-    }
+    rest.is_empty().then_some([time, a, b, c, d])
 }
 
 pub fn side_letter(side: Side) -> u8
