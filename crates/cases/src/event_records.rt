@@ -1,16 +1,9 @@
 // Event records.
+use crate::tables::{self, Case};
 use market::{Event, Side};
-use records::{Malformed, read, write};
+use records::{Malformed, read};
 
-// A record by its value and its bytes, and which of these are judged: `#` where one value is right, `.` where any is.
-#[derive(Clone, Copy)]
-struct Case {
-    value: Event,
-    bytes: [u8; 24],
-    judged: [u8; 24],
-}
-
-const CASES: [Case; 10] = [
+const CASES: [Case<Event>; 10] = [
     Case {
         value: Event::Make {
             dealers: 2,
@@ -91,31 +84,12 @@ const CASES: [Case; 10] = [
 
 #[test]
 fn each_kind_writes_and_reads(rt: HostRuntime) {
-    for case in CASES {
-        assert_eq!(rt; write(&case.value), case.bytes);
-        assert_eq!(rt; read::<Event>(&case.bytes), Ok(case.value));
-    }
+    tables::each_is_written_and_read(&rt, &CASES);
 }
 
-// A byte of another value is wrong at each judged place and at no other; what is then accepted writes back.
 #[test]
 fn each_byte_is_judged(rt: HostRuntime) {
-    for case in CASES {
-        for place in 0..24 {
-            let mut bytes = case.bytes;
-            bytes[place] = 0xee;
-            match read::<Event>(&bytes) {
-                Ok(value) => {
-                    assert_eq!(rt; case.judged[place], b'.');
-                    assert_eq!(rt; write(&value), bytes);
-                }
-                Err(malformed) => {
-                    assert_eq!(rt; case.judged[place], b'#');
-                    assert_eq!(rt; malformed, Malformed::Byte { place });
-                }
-            }
-        }
-    }
+    tables::each_byte_is_judged(&rt, &CASES);
 }
 
 // Of two wrong bytes the first counts, a letter of the other format is none here, and a side belongs to an order alone.
@@ -133,11 +107,5 @@ fn the_first_wrong_byte_counts(rt: HostRuntime) {
 
 #[test]
 fn the_length_counts_before_any_byte(rt: HostRuntime) {
-    let bytes = [0xee; 48];
-    for found in [0, 3, 4, 23, 25, 48] {
-        assert_eq!(rt;
-            read::<Event>(&bytes[0..found]),
-            Err(Malformed::Length { found })
-        );
-    }
+    tables::length_counts_first::<Event>(&rt);
 }
