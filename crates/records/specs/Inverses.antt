@@ -1,8 +1,9 @@
--- A word and a side can be had back from their bytes. Assumes nothing.
+-- A word, a side and a pair can be had back from their bytes. Assumes nothing.
 use Rattle.std.specs.Prelude.{◌≡◌, ℕ, ◌+◌, ◌*◌, ◌/◌, ◌%◌, cond, List, slice_index, refl, ◌==◌}
+use Rattle.market.specs.declared.Pair.{Pair}
 use Rattle.market.specs.declared.Side.{Side}
 use Rattle.market.specs.declared.Side.TheVariants.{Buy, Sell}
-use Rattle.records.specs.Layout.{letter, IsWord}
+use Rattle.records.specs.Layout.{letter, no_side, row, IsWord}
 use Rattle.records.specs.Forms.{settled, sided}
 
 -- the number that four bytes stand for, the highest first
@@ -29,3 +30,21 @@ side_inverse Sell = refl
 pub side_keeps : (s : Side) → settled sided (letter s) ≡ letter s
 side_keeps Buy = refl
 side_keeps Sell = refl
+
+-- the pair in the fields A to D
+abbrev pub pair_of : List ℕ → Pair
+pair_of xs = record {
+  bid = word_at xs 8;
+  bid_quantity = word_at xs 12;
+  ask = word_at xs 16;
+  ask_quantity = word_at xs 20;
+}
+
+-- each number of a pair can be had back
+pub pair_inverse : WordInverse → (p : Pair) → IsWord p.bid → IsWord p.bid_quantity → IsWord p.ask → IsWord p.ask_quantity → pair_of (row "Q" no_side 0 0 p.bid p.bid_quantity p.ask p.ask_quantity) ≡ p
+pair_inverse word p a b c d = λ i. record {
+  bid = word p.bid a i;
+  bid_quantity = word p.bid_quantity b i;
+  ask = word p.ask c i;
+  ask_quantity = word p.ask_quantity d i;
+}

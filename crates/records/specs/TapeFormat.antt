@@ -6,10 +6,10 @@ use Rattle.market.specs.declared.TapeRecord.{TapeRecord}
 use Rattle.records.specs.Layout.{row, tape_bytes, TapeFits}
 use Rattle.records.specs.Forms.{tape_form, all_settled}
 use Rattle.records.specs.Formats.{LawfulFormat}
-use Rattle.records.specs.Inverses.{word_at, WordInverse, side_of, side_inverse, side_keeps}
+use Rattle.records.specs.Inverses.{word_at, WordInverse, side_of, side_inverse, side_keeps, pair_of, pair_inverse}
 
 tape_length : (t : TapeRecord) → length (tape_bytes t) ≡ 24
-tape_length (TapeRecord.Quote t d a b p q) = refl
+tape_length (TapeRecord.Quote t d p) = refl
 tape_length (TapeRecord.Withdrawal t d) = refl
 tape_length (TapeRecord.Order t s p q) = refl
 tape_length (TapeRecord.Cancellation t s n q) = refl
@@ -19,7 +19,7 @@ tape_length (TapeRecord.Late t d m) = refl
 tape_length (TapeRecord.Halt t d) = refl
 
 tape_keeps : (t : TapeRecord) → all_settled (tape_form (slice_index (tape_bytes t) 0)) (tape_bytes t) ≡ tape_bytes t
-tape_keeps (TapeRecord.Quote t d a b p q) = refl
+tape_keeps (TapeRecord.Quote t d p) = refl
 tape_keeps (TapeRecord.Withdrawal t d) = refl
 tape_keeps (TapeRecord.Order t s p q) = λ i. row "O" (side_keeps s i) 0 t p q 0 0
 tape_keeps (TapeRecord.Cancellation t s n q) = λ i. row "C" (side_keeps s i) 0 t n q 0 0
@@ -43,7 +43,7 @@ trade_of xs = record {
 -- the tape record of some bytes
 abbrev tape_of : List ℕ → TapeRecord
 tape_of xs =
-    cond (slice_index xs 0 == 81) (TapeRecord.Quote (word_at xs 4) (slice_index xs 2) (word_at xs 8) (word_at xs 12) (word_at xs 16) (word_at xs 20))
+    cond (slice_index xs 0 == 81) (TapeRecord.Quote (word_at xs 4) (slice_index xs 2) (pair_of xs))
     (cond (slice_index xs 0 == 87) (TapeRecord.Withdrawal (word_at xs 4) (slice_index xs 2))
     (cond (slice_index xs 0 == 79) (TapeRecord.Order (word_at xs 4) (side_of (slice_index xs 1)) (word_at xs 8) (word_at xs 12))
     (cond (slice_index xs 0 == 67) (TapeRecord.Cancellation (word_at xs 4) (side_of (slice_index xs 1)) (word_at xs 8) (word_at xs 12))
@@ -53,7 +53,7 @@ tape_of xs =
     (TapeRecord.Halt (word_at xs 4) (word_at xs 8))))))))
 
 tape_inverse : WordInverse → (t : TapeRecord) → TapeFits t → tape_of (tape_bytes t) ≡ t
-tape_inverse word (TapeRecord.Quote t d a b p q) l = λ i. TapeRecord.Quote (word t l.0 i) d (word a l.2 i) (word b l.3 i) (word p l.4 i) (word q l.5 i)
+tape_inverse word (TapeRecord.Quote t d p) l = λ i. TapeRecord.Quote (word t l.0 i) d (pair_inverse word p l.2 l.3 l.4 l.5 i)
 tape_inverse word (TapeRecord.Withdrawal t d) l = λ i. TapeRecord.Withdrawal (word t l.0 i) d
 tape_inverse word (TapeRecord.Order t s p q) l = λ i. TapeRecord.Order (word t l.0 i) (side_inverse s i) (word p l.1 i) (word q l.2 i)
 tape_inverse word (TapeRecord.Cancellation t s n q) l = λ i. TapeRecord.Cancellation (word t l.0 i) (side_inverse s i) (word n l.1 i) (word q l.2 i)

@@ -7,8 +7,8 @@ ghost use Rattle.std.proofs.lemmas.Nat.{shr-shr};
 
 use crate::RECORD_LENGTH;
 use crate::codec::Record;
-use crate::parts::{Head, NO_SIDE, Words, laid_out, nearest_side, side_letter};
-use market::Event;
+use crate::parts::{Head, NO_SIDE, Words, laid_out, nearest_side, pair_words, side_letter};
+use market::{Config, Event, Pair};
 
 impl Record for Event {
     ghost bytes_of = { event_bytes };
@@ -21,31 +21,22 @@ impl Record for Event {
 
     fn to_bytes(&self) -> [u8; RECORD_LENGTH] {
         match *self {
-            Event::Make {
-                dealers,
-                least_quantity,
-                previous_average,
-                day_kind,
-                rule,
-            } => laid_out(
-                b'M',
-                NO_SIDE,
-                dealers,
-                [0, least_quantity, previous_average, day_kind, rule],
-            ),
+            Event::Make { config, rule } => {
+                let Config {
+                    dealers,
+                    least_quantity,
+                    previous_average,
+                    day_kind,
+                } = config;
+                laid_out(
+                    b'M',
+                    NO_SIDE,
+                    dealers,
+                    [0, least_quantity, previous_average, day_kind, rule],
+                )
+            }
             Event::Clock { time } => laid_out(b'N', NO_SIDE, 0, [time, 0, 0, 0, 0]),
-            Event::Quote {
-                dealer,
-                bid,
-                bid_quantity,
-                ask,
-                ask_quantity,
-            } => laid_out(
-                b'Q',
-                NO_SIDE,
-                dealer,
-                [0, bid, bid_quantity, ask, ask_quantity],
-            ),
+            Event::Quote { dealer, pair } => laid_out(b'Q', NO_SIDE, dealer, pair_words(0, pair)),
             Event::Withdraw { dealer } => laid_out(b'W', NO_SIDE, dealer, [0, 0, 0, 0, 0]),
             Event::Bell => laid_out(b'B', NO_SIDE, 0, [0, 0, 0, 0, 0]),
             Event::Order {
@@ -79,19 +70,23 @@ impl Record for Event {
         let [time, a, b, c, d] = words;
         let event = match kind as char {
             'M' => Event::Make {
-                dealers: dealer,
-                least_quantity: a,
-                previous_average: b,
-                day_kind: c,
+                config: Config {
+                    dealers: dealer,
+                    least_quantity: a,
+                    previous_average: b,
+                    day_kind: c,
+                },
                 rule: d,
             },
             'N' => Event::Clock { time },
             'Q' => Event::Quote {
                 dealer,
-                bid: a,
-                bid_quantity: b,
-                ask: c,
-                ask_quantity: d,
+                pair: Pair {
+                    bid: a,
+                    bid_quantity: b,
+                    ask: c,
+                    ask_quantity: d,
+                },
             },
             'W' => Event::Withdraw { dealer },
             'B' => Event::Bell,

@@ -1,11 +1,11 @@
 // The parts that records of both formats are made of.
-ghost use Rattle.std.specs.Prelude.{◌≡◌, ◌+◌, ◌<◌, ◌∷◌, ◌++◌, length, take, MatchOption, ◌≢◌};
+ghost use Rattle.std.specs.Prelude.{◌≡◌, ◌+◌, ◌<◌, ◌∷◌, [], ◌++◌, length, take, MatchOption, ◌≢◌};
 ghost use Rattle.records.specs.Layout.{word_bytes, letter};
 ghost use Rattle.records.specs.Parts.{words_of, words_fit};
 ghost use Rattle.records.specs.Forms.{settled, sided};
 
 use crate::RECORD_LENGTH;
-use market::Side;
+use market::{Pair, Side};
 
 // The first four bytes of a record, before any is judged.
 #[derive(Clone, Copy)]
@@ -40,6 +40,19 @@ pub fn five_words(rest: &[u8]) -> Option<Words>
     let (c, rest) = word(rest)?;
     let (d, rest) = word(rest)?;
     rest.is_empty().then_some([time, a, b, c, d])
+}
+
+// A time, then a pair in the fields A to D.
+pub fn pair_words(time: u32, pair: Pair) -> Words
+    ensures { result ≡ time ∷ pair.bid ∷ pair.bid_quantity ∷ pair.ask ∷ pair.ask_quantity ∷ [] }
+{
+    [
+        time,
+        pair.bid,
+        pair.bid_quantity,
+        pair.ask,
+        pair.ask_quantity,
+    ]
 }
 
 pub fn side_letter(side: Side) -> u8

@@ -7,8 +7,8 @@ ghost use Rattle.std.proofs.lemmas.Nat.{shr-shr};
 
 use crate::RECORD_LENGTH;
 use crate::codec::Record;
-use crate::parts::{Head, NO_SIDE, Words, laid_out, nearest_side, side_letter};
-use market::{TapeRecord, Trade};
+use crate::parts::{Head, NO_SIDE, Words, laid_out, nearest_side, pair_words, side_letter};
+use market::{Pair, TapeRecord, Trade};
 
 impl Record for TapeRecord {
     ghost bytes_of = { tape_bytes };
@@ -21,18 +21,11 @@ impl Record for TapeRecord {
 
     fn to_bytes(&self) -> [u8; RECORD_LENGTH] {
         match *self {
-            TapeRecord::Quote {
-                time,
-                dealer,
-                bid,
-                bid_quantity,
-                ask,
-                ask_quantity,
-            } => laid_out(
+            TapeRecord::Quote { time, dealer, pair } => laid_out(
                 b'Q',
                 NO_SIDE,
                 dealer,
-                [time, bid, bid_quantity, ask, ask_quantity],
+                pair_words(time, pair),
             ),
             TapeRecord::Withdrawal { time, dealer } => laid_out(
                 b'W',
@@ -98,10 +91,12 @@ impl Record for TapeRecord {
             'Q' => TapeRecord::Quote {
                 time,
                 dealer,
-                bid: a,
-                bid_quantity: b,
-                ask: c,
-                ask_quantity: d,
+                pair: Pair {
+                    bid: a,
+                    bid_quantity: b,
+                    ask: c,
+                    ask_quantity: d,
+                },
             },
             'W' => TapeRecord::Withdrawal { time, dealer },
             'O' => TapeRecord::Order {
