@@ -7,8 +7,8 @@ ghost use Rattle.std.proofs.lemmas.Nat.{shr-shr};
 
 use crate::RECORD_LENGTH;
 use crate::codec::Record;
-use crate::parts::{Head, NO_SIDE, Words, laid_out, nearest_side, pair_words, side_letter};
-use market::{Config, Event, Pair};
+use crate::parts::{Head, Words, nearest_side, of_side, pair_of, pair_words, plain};
+use market::{Config, Event};
 
 impl Record for Event {
     ghost bytes_of = { event_bytes };
@@ -28,35 +28,24 @@ impl Record for Event {
                     previous_average,
                     day_kind,
                 } = config;
-                laid_out(
+                plain(
                     b'M',
-                    NO_SIDE,
                     dealers,
                     [0, least_quantity, previous_average, day_kind, rule],
                 )
             }
-            Event::Clock { time } => laid_out(b'N', NO_SIDE, 0, [time, 0, 0, 0, 0]),
-            Event::Quote { dealer, pair } => laid_out(b'Q', NO_SIDE, dealer, pair_words(0, pair)),
-            Event::Withdraw { dealer } => laid_out(b'W', NO_SIDE, dealer, [0, 0, 0, 0, 0]),
-            Event::Bell => laid_out(b'B', NO_SIDE, 0, [0, 0, 0, 0, 0]),
+            Event::Clock { time } => plain(b'N', 0, [time, 0, 0, 0, 0]),
+            Event::Quote { dealer, pair } => plain(b'Q', dealer, pair_words(0, pair)),
+            Event::Withdraw { dealer } => plain(b'W', dealer, [0, 0, 0, 0, 0]),
+            Event::Bell => plain(b'B', 0, [0, 0, 0, 0, 0]),
             Event::Order {
                 side,
                 price,
                 quantity,
-            } => laid_out(b'O', side_letter(side), 0, [0, price, quantity, 0, 0]),
-            Event::Cancel { number, amount } => laid_out(
-                b'C',
-                NO_SIDE,
-                0,
-                [0, number, amount, 0, 0],
-            ),
-            Event::Click { dealer, number } => laid_out(
-                b'K',
-                NO_SIDE,
-                dealer,
-                [0, number, 0, 0, 0],
-            ),
-            Event::Close => laid_out(b'E', NO_SIDE, 0, [0, 0, 0, 0, 0]),
+            } => of_side(b'O', side, 0, [0, price, quantity, 0, 0]),
+            Event::Cancel { number, amount } => plain(b'C', 0, [0, number, amount, 0, 0]),
+            Event::Click { dealer, number } => plain(b'K', dealer, [0, number, 0, 0, 0]),
+            Event::Close => plain(b'E', 0, [0, 0, 0, 0, 0]),
         }
     }
 
@@ -68,7 +57,7 @@ impl Record for Event {
             zero: _,
         } = head;
         let [time, a, b, c, d] = words;
-        let event = match kind as char {
+        Some(match kind as char {
             'M' => Event::Make {
                 config: Config {
                     dealers: dealer,
@@ -81,12 +70,7 @@ impl Record for Event {
             'N' => Event::Clock { time },
             'Q' => Event::Quote {
                 dealer,
-                pair: Pair {
-                    bid: a,
-                    bid_quantity: b,
-                    ask: c,
-                    ask_quantity: d,
-                },
+                pair: pair_of(words),
             },
             'W' => Event::Withdraw { dealer },
             'B' => Event::Bell,
@@ -102,7 +86,6 @@ impl Record for Event {
             'K' => Event::Click { dealer, number: a },
             'E' => Event::Close,
             _ => return None,
-        };
-        Some(event)
+        })
     }
 }

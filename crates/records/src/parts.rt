@@ -1,7 +1,7 @@
 // The parts that records of both formats are made of.
 ghost use Rattle.std.specs.Prelude.{◌≡◌, ◌+◌, ◌<◌, ◌∷◌, [], ◌++◌, length, take, MatchOption, ◌≢◌};
-ghost use Rattle.records.specs.Layout.{word_bytes, letter};
-ghost use Rattle.records.specs.Parts.{words_of, words_fit};
+ghost use Rattle.records.specs.Layout.{word_bytes, letter, no_side};
+ghost use Rattle.records.specs.Parts.{words_of, words_fit, pair_in};
 ghost use Rattle.records.specs.Forms.{settled, sided};
 
 use crate::RECORD_LENGTH;
@@ -20,7 +20,7 @@ pub struct Head {
 pub type Words = [u32; 5];
 
 // The letter of a record without a side.
-pub const NO_SIDE: u8 = b'-';
+const NO_SIDE: u8 = b'-';
 
 // The word at the front, the highest byte first, and what stands behind it.
 fn word(bytes: &[u8]) -> Option<(u32, &[u8])>
@@ -55,7 +55,20 @@ pub fn pair_words(time: u32, pair: Pair) -> Words
     ]
 }
 
-pub fn side_letter(side: Side) -> u8
+// The pair in the fields A to D.
+pub fn pair_of(words: Words) -> Pair
+    ensures { result ≡ pair_in words }
+{
+    let [_, a, b, c, d] = words;
+    Pair {
+        bid: a,
+        bid_quantity: b,
+        ask: c,
+        ask_quantity: d,
+    }
+}
+
+fn side_letter(side: Side) -> u8
     ensures { result ≡ letter side }
 {
     match side {
@@ -65,7 +78,7 @@ pub fn side_letter(side: Side) -> u8
 }
 
 // The bytes of a record, from its parts.
-pub fn laid_out(kind: u8, side: u8, dealer: u8, words: Words) -> [u8; RECORD_LENGTH]
+fn laid_out(kind: u8, side: u8, dealer: u8, words: Words) -> [u8; RECORD_LENGTH]
     ensures bytes { result ≡ kind ∷ side ∷ dealer ∷ 0 ∷ words_of words }
     ensures fits { words_fit words }
 {
@@ -79,6 +92,22 @@ pub fn laid_out(kind: u8, side: u8, dealer: u8, words: Words) -> [u8; RECORD_LEN
         kind, side, dealer, 0, t0, t1, t2, t3, a0, a1, a2, a3, b0, b1, b2, b3, c0, c1, c2, c3, d0,
         d1, d2, d3,
     ]
+}
+
+// The bytes of a record without a side.
+pub fn plain(kind: u8, dealer: u8, words: Words) -> [u8; RECORD_LENGTH]
+    ensures bytes { result ≡ kind ∷ no_side ∷ dealer ∷ 0 ∷ words_of words }
+    ensures fits { words_fit words }
+{
+    laid_out(kind, NO_SIDE, dealer, words)
+}
+
+// The bytes of a record with a side.
+pub fn of_side(kind: u8, side: Side, dealer: u8, words: Words) -> [u8; RECORD_LENGTH]
+    ensures bytes { result ≡ kind ∷ letter side ∷ dealer ∷ 0 ∷ words_of words }
+    ensures fits { words_fit words }
+{
+    laid_out(kind, side_letter(side), dealer, words)
 }
 
 // The side that a letter stands for; Sell for a letter that stands for none, which the record written back then shows to be wrong.

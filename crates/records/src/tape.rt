@@ -1,14 +1,48 @@
 // Tape records.
-ghost use Rattle.records.specs.Layout.{tape_bytes, TapeFits};
-ghost use Rattle.records.specs.Forms.{tape_form};
+ghost use Rattle.std.specs.Prelude.{◌≡◌};
+ghost use Rattle.records.specs.Layout.{ascii, tape_bytes, TapeFits};
+ghost use Rattle.records.specs.Parts.{parts_of};
+ghost use Rattle.records.specs.Forms.{tape_form, all_settled};
 ghost use Rattle.records.specs.TapeFormat.{tape_format};
 ghost use Rattle.std.proofs.Common.{arith, rules};
 ghost use Rattle.std.proofs.lemmas.Nat.{shr-shr};
 
 use crate::RECORD_LENGTH;
 use crate::codec::Record;
-use crate::parts::{Head, NO_SIDE, Words, laid_out, nearest_side, pair_words, side_letter};
-use market::{Pair, TapeRecord, Trade};
+use crate::parts::{Head, Words, nearest_side, of_side, pair_of, pair_words, plain};
+use market::{TapeRecord, Trade};
+
+// The click of a record's parts.
+fn click_of(head: Head, words: Words) -> TapeRecord
+    ensures { tape_bytes result ≡ all_settled (tape_form (ascii "K")) (parts_of head words) }
+{
+    let [time, a, b, c, d] = words;
+    TapeRecord::Click {
+        time,
+        dealer: head.dealer,
+        side: nearest_side(head.side),
+        number: a,
+        price: b,
+        taken: c,
+        entered: d,
+    }
+}
+
+// The trade of a record's parts.
+fn trade_of(head: Head, words: Words) -> Trade
+    ensures { tape_bytes (TapeRecord.Trade result) ≡ all_settled (tape_form (ascii "T")) (parts_of head words) }
+{
+    let [time, a, b, c, d] = words;
+    Trade {
+        time,
+        side: nearest_side(head.side),
+        dealer: head.dealer,
+        number: a,
+        price: b,
+        quantity: c,
+        arrival: d,
+    }
+}
 
 impl Record for TapeRecord {
     ghost bytes_of = { tape_bytes };
@@ -21,30 +55,20 @@ impl Record for TapeRecord {
 
     fn to_bytes(&self) -> [u8; RECORD_LENGTH] {
         match *self {
-            TapeRecord::Quote { time, dealer, pair } => laid_out(
-                b'Q',
-                NO_SIDE,
-                dealer,
-                pair_words(time, pair),
-            ),
-            TapeRecord::Withdrawal { time, dealer } => laid_out(
-                b'W',
-                NO_SIDE,
-                dealer,
-                [time, 0, 0, 0, 0],
-            ),
+            TapeRecord::Quote { time, dealer, pair } => plain(b'Q', dealer, pair_words(time, pair)),
+            TapeRecord::Withdrawal { time, dealer } => plain(b'W', dealer, [time, 0, 0, 0, 0]),
             TapeRecord::Order {
                 time,
                 side,
                 price,
                 quantity,
-            } => laid_out(b'O', side_letter(side), 0, [time, price, quantity, 0, 0]),
+            } => of_side(b'O', side, 0, [time, price, quantity, 0, 0]),
             TapeRecord::Cancellation {
                 time,
                 side,
                 number,
                 quantity,
-            } => laid_out(b'C', side_letter(side), 0, [time, number, quantity, 0, 0]),
+            } => of_side(b'C', side, 0, [time, number, quantity, 0, 0]),
             TapeRecord::Click {
                 time,
                 dealer,
@@ -53,15 +77,10 @@ impl Record for TapeRecord {
                 price,
                 taken,
                 entered,
-            } => laid_out(
-                b'K',
-                side_letter(side),
-                dealer,
-                [time, number, price, taken, entered],
-            ),
-            TapeRecord::Trade(t) => laid_out(
+            } => of_side(b'K', side, dealer, [time, number, price, taken, entered]),
+            TapeRecord::Trade(t) => of_side(
                 b'T',
-                side_letter(t.side),
+                t.side,
                 t.dealer,
                 [t.time, t.number, t.price, t.quantity, t.arrival],
             ),
@@ -69,13 +88,8 @@ impl Record for TapeRecord {
                 time,
                 dealer,
                 missed,
-            } => laid_out(b'L', NO_SIDE, dealer, [time, missed, 0, 0, 0]),
-            TapeRecord::Halt { time, direction } => laid_out(
-                b'H',
-                NO_SIDE,
-                0,
-                [time, direction, 0, 0, 0],
-            ),
+            } => plain(b'L', dealer, [time, missed, 0, 0, 0]),
+            TapeRecord::Halt { time, direction } => plain(b'H', 0, [time, direction, 0, 0, 0]),
         }
     }
 
@@ -87,48 +101,28 @@ impl Record for TapeRecord {
             zero: _,
         } = head;
         let [time, a, b, c, d] = words;
-        let told = match kind as char {
+        let side = nearest_side(side);
+        Some(match kind as char {
             'Q' => TapeRecord::Quote {
                 time,
                 dealer,
-                pair: Pair {
-                    bid: a,
-                    bid_quantity: b,
-                    ask: c,
-                    ask_quantity: d,
-                },
+                pair: pair_of(words),
             },
             'W' => TapeRecord::Withdrawal { time, dealer },
             'O' => TapeRecord::Order {
                 time,
-                side: nearest_side(side),
+                side,
                 price: a,
                 quantity: b,
             },
             'C' => TapeRecord::Cancellation {
                 time,
-                side: nearest_side(side),
+                side,
                 number: a,
                 quantity: b,
             },
-            'K' => TapeRecord::Click {
-                time,
-                dealer,
-                side: nearest_side(side),
-                number: a,
-                price: b,
-                taken: c,
-                entered: d,
-            },
-            'T' => TapeRecord::Trade(Trade {
-                time,
-                side: nearest_side(side),
-                dealer,
-                number: a,
-                price: b,
-                quantity: c,
-                arrival: d,
-            }),
+            'K' => click_of(head, words),
+            'T' => TapeRecord::Trade(trade_of(head, words)),
             'L' => TapeRecord::Late {
                 time,
                 dealer,
@@ -136,7 +130,6 @@ impl Record for TapeRecord {
             },
             'H' => TapeRecord::Halt { time, direction: a },
             _ => return None,
-        };
-        Some(told)
+        })
     }
 }
