@@ -1,15 +1,17 @@
 // Event records.
 use crate::tables::{self, Case};
-use market::{Event, Side};
+use market::{Config, Event, Pair, Side};
 use records::{Malformed, read};
 
 const CASES: [Case<Event>; 10] = [
     Case {
         value: Event::Make {
-            dealers: 2,
-            least_quantity: 2000,
-            previous_average: 5000,
-            day_kind: 4,
+            config: Config {
+                dealers: 2,
+                least_quantity: 2000,
+                previous_average: 5000,
+                day_kind: 4,
+            },
             rule: 1,
         },
         bytes: *b"M-\x02\x00\x00\x00\x00\x00\x00\x00\x07\xd0\x00\x00\x13\x88\x00\x00\x00\x04\x00\x00\x00\x01",
@@ -23,10 +25,12 @@ const CASES: [Case<Event>; 10] = [
     Case {
         value: Event::Quote {
             dealer: 255,
-            bid: 4900,
-            bid_quantity: 2000,
-            ask: 5000,
-            ask_quantity: 4294967295,
+            pair: Pair {
+                bid: 4900,
+                bid_quantity: 2000,
+                ask: 5000,
+                ask_quantity: 4294967295,
+            },
         },
         bytes: *b"Q-\xff\x00\x00\x00\x00\x00\x00\x00\x13\x24\x00\x00\x07\xd0\x00\x00\x13\x88\xff\xff\xff\xff",
         judged: *b"##.#####................",

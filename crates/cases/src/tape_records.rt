@@ -1,6 +1,6 @@
 // Tape records.
 use crate::tables::{self, Case};
-use market::{Side, TapeRecord, Trade};
+use market::{Pair, Side, TapeRecord, Trade};
 use records::{Malformed, read};
 
 const CASES: [Case<TapeRecord>; 8] = [
@@ -8,10 +8,12 @@ const CASES: [Case<TapeRecord>; 8] = [
         value: TapeRecord::Quote {
             time: 3060000,
             dealer: 1,
-            bid: 4900,
-            bid_quantity: 2000,
-            ask: 5000,
-            ask_quantity: 3000,
+            pair: Pair {
+                bid: 4900,
+                bid_quantity: 2000,
+                ask: 5000,
+                ask_quantity: 3000,
+            },
         },
         bytes: *b"Q-\x01\x00\x00\x2e\xb1\x20\x00\x00\x13\x24\x00\x00\x07\xd0\x00\x00\x13\x88\x00\x00\x0b\xb8",
         judged: *b"##.#....................",

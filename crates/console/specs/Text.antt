@@ -1,15 +1,11 @@
 -- The text of a line of the listing. Assumes nothing.
 use Rattle.std.specs.Prelude.{ℕ, List, [], ◌∷◌, ◌++◌, Ok, Err, codes, decimal, Result}
+use Rattle.market.specs.Text.{numbers}
 use Rattle.market.specs.declared.Event.{Event}
 use Rattle.market.specs.declared.Side.TheVariants.{Buy, Sell}
 use Rattle.records.specs.declared.Malformed.{Malformed}
 use Rattle.records.specs.declared.Malformed.TheVariants.{Length, Byte}
 use Rattle.console.specs.declared.listing.Line.{Line}
-
--- a blank and a number, for each
-abbrev pub numbers : List ℕ → List ℕ
-numbers [] = []
-numbers (n ∷ ns) = codes " " ++ (decimal n ++ numbers ns)
 
 -- the kind letter and the named values, or `?`, 17, and the wrong byte's place or the length
 abbrev pub said_text : Result Event Malformed → List ℕ

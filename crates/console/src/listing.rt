@@ -3,7 +3,7 @@ ghost use Rattle.std.specs.Prelude.{◌≡◌, [], IfOk, Some, OnOk};
 ghost use Rattle.console.specs.Text.{line_text};
 ghost use Rattle.console.specs.Listing.{LineOf, Lists};
 
-use market::{Event, Side};
+use market::{Config, Event, Pair, Side};
 use records::{Malformed, RECORD_LENGTH, read};
 use std::alloc::{AllocError, Global};
 use std::fmt;
@@ -33,31 +33,31 @@ impl fmt::Display for Line {
     fn fmt<W: fmt::Write>(&self, f: &mut fmt::Formatter<W>) -> fmt::Result {
         let place = self.place;
         match self.said {
-            Ok(
-                Event::Make {
+            Ok(Event::Make { config, rule }) => {
+                let Config {
                     dealers,
                     least_quantity,
                     previous_average,
                     day_kind,
-                    rule,
-                },
-            ) => write!(
-                f,
-                "{place} M {dealers} {least_quantity} {previous_average} {day_kind} {rule}"
-            ),
+                } = config;
+                write!(
+                    f,
+                    "{place} M {dealers} {least_quantity} {previous_average} {day_kind} {rule}"
+                )
+            }
             Ok(Event::Clock { time }) => write!(f, "{place} N {time}"),
-            Ok(
-                Event::Quote {
-                    dealer,
+            Ok(Event::Quote { dealer, pair }) => {
+                let Pair {
                     bid,
                     bid_quantity,
                     ask,
                     ask_quantity,
-                },
-            ) => write!(
-                f,
-                "{place} Q {dealer} {bid} {bid_quantity} {ask} {ask_quantity}"
-            ),
+                } = pair;
+                write!(
+                    f,
+                    "{place} Q {dealer} {bid} {bid_quantity} {ask} {ask_quantity}"
+                )
+            }
             Ok(Event::Withdraw { dealer }) => write!(f, "{place} W {dealer}"),
             Ok(Event::Bell) => write!(f, "{place} B"),
             Ok(
@@ -77,8 +77,9 @@ impl fmt::Display for Line {
             Ok(Event::Cancel { number, amount }) => write!(f, "{place} C {number} {amount}"),
             Ok(Event::Click { dealer, number }) => write!(f, "{place} K {dealer} {number}"),
             Ok(Event::Close) => write!(f, "{place} E"),
-            Err(Malformed::Length { found }) => write!(f, "{place} ? 17 {found}"),
-            Err(Malformed::Byte { place: byte }) => write!(f, "{place} ? 17 {byte}"),
+            Err(Malformed::Length { found: at } | Malformed::Byte { place: at }) => {
+                write!(f, "{place} ? 17 {at}")
+            }
         }
     }
 }

@@ -41,24 +41,11 @@ fn ruling_at(place: u32, number: u32) -> Result<Ruling, Misplaced>
 fn making_at(place: u32, event: &Event) -> Result<(Ruling, Config), Misplaced>
     ensures { by_day result ≡ making_of place event.now }
 {
-    let Event::Make {
-        dealers,
-        least_quantity,
-        previous_average,
-        day_kind,
-        rule,
-    } = *event
-    else {
+    let Event::Make { config, rule } = *event else {
         return Err(Misplaced {
             place,
             refusal: Refusal::OutOfTurn,
         });
-    };
-    let config = Config {
-        dealers,
-        least_quantity,
-        previous_average,
-        day_kind,
     };
     Ok((ruling_at(place, rule)?, config))
 }

@@ -3,7 +3,7 @@ use crate::stores::{ALL_LATE, FIRST, NO_ORDER, NO_QUOTE, NO_RECORD, SECOND};
 use book::memory::Memory;
 use day::faults::Fault;
 use day::stages::Day;
-use market::{Answer, Event, Refusal, Summary};
+use market::{Answer, Config, Event, Refusal, Summary};
 use records::{Malformed, write};
 use std::alloc::Global;
 use std::process::Abort;
@@ -28,10 +28,12 @@ const QUOTED: Taken = Ok(Answer::Quoted {
 
 const fn make(dealers: u8, rule: u32) -> Record {
     Record::Of(Event::Make {
-        dealers,
-        least_quantity: 2000,
-        previous_average: 5000,
-        day_kind: 0,
+        config: Config {
+            dealers,
+            least_quantity: 2000,
+            previous_average: 5000,
+            day_kind: 0,
+        },
         rule,
     })
 }
