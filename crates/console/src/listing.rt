@@ -1,9 +1,10 @@
 // What each record of an event file says, a line each.
 ghost use Rattle.std.specs.Prelude.{◌≡◌, [], IfOk, Some, OnOk};
+ghost use Rattle.records.specs.Layout.{letter};
 ghost use Rattle.console.specs.Text.{line_text};
 ghost use Rattle.console.specs.Listing.{LineOf, Lists};
 
-use market::{Config, Event, Pair, Side};
+use market::{Event, Side};
 use records::{Malformed, RECORD_LENGTH, read};
 use std::alloc::{AllocError, Global};
 use std::fmt;
@@ -27,53 +28,42 @@ impl Line {
     }
 }
 
+// The letter of an order's side.
+fn side_letter(side: Side) -> char
+    ensures { result ≡ letter side }
+{
+    match side {
+        Side::Buy => 'B',
+        Side::Sell => 'S',
+    }
+}
+
 impl fmt::Display for Line {
     ghost output = { λ l. Some (line_text l) };
 
     fn fmt<W: fmt::Write>(&self, f: &mut fmt::Formatter<W>) -> fmt::Result {
         let place = self.place;
         match self.said {
-            Ok(Event::Make { config, rule }) => {
-                let Config {
-                    dealers,
-                    least_quantity,
-                    previous_average,
-                    day_kind,
-                } = config;
-                write!(
-                    f,
-                    "{place} M {dealers} {least_quantity} {previous_average} {day_kind} {rule}"
-                )
-            }
+            Ok(Event::Make { config, rule }) => write!(
+                f,
+                "{place} M {} {} {} {} {rule}",
+                config.dealers, config.least_quantity, config.previous_average, config.day_kind
+            ),
             Ok(Event::Clock { time }) => write!(f, "{place} N {time}"),
-            Ok(Event::Quote { dealer, pair }) => {
-                let Pair {
-                    bid,
-                    bid_quantity,
-                    ask,
-                    ask_quantity,
-                } = pair;
-                write!(
-                    f,
-                    "{place} Q {dealer} {bid} {bid_quantity} {ask} {ask_quantity}"
-                )
-            }
+            Ok(Event::Quote { dealer, pair }) => write!(
+                f,
+                "{place} Q {dealer} {} {} {} {}",
+                pair.bid, pair.bid_quantity, pair.ask, pair.ask_quantity
+            ),
             Ok(Event::Withdraw { dealer }) => write!(f, "{place} W {dealer}"),
             Ok(Event::Bell) => write!(f, "{place} B"),
             Ok(
                 Event::Order {
-                    side: Side::Buy,
+                    side,
                     price,
                     quantity,
                 },
-            ) => write!(f, "{place} O B {price} {quantity}"),
-            Ok(
-                Event::Order {
-                    side: Side::Sell,
-                    price,
-                    quantity,
-                },
-            ) => write!(f, "{place} O S {price} {quantity}"),
+            ) => write!(f, "{place} O {} {price} {quantity}", side_letter(side)),
             Ok(Event::Cancel { number, amount }) => write!(f, "{place} C {number} {amount}"),
             Ok(Event::Click { dealer, number }) => write!(f, "{place} K {dealer} {number}"),
             Ok(Event::Close) => write!(f, "{place} E"),
