@@ -1,5 +1,5 @@
 // What each record of an event file says, a line each.
-ghost use Rattle.std.specs.Prelude.{◌≡◌, [], IfOk, Some, OnOk};
+ghost use Rattle.std.specs.Prelude.{◌≡◌, IfOk, Some};
 ghost use Rattle.records.specs.Layout.{letter};
 ghost use Rattle.console.specs.Text.{line_text};
 ghost use Rattle.console.specs.Listing.{LineOf, Lists};
@@ -74,22 +74,12 @@ impl fmt::Display for Line {
     }
 }
 
-// Fills an empty listing: a line for each 24 bytes of a file, and one for what is left over at its end.
-fn fill(lines: &mut Vec<Line>, file: &[u8]) -> Result<(), AllocError>
-    requires { lines.old.items ≡ [] }
-    ensures { OnOk result (Lists 1 file.now lines.new.items) }
-{
-    for piece in file.chunks(RECORD_LENGTH) {
-        lines.push(Line::of(lines.len() + 1, piece))?;
-    }
-    Ok(())
-}
-
-// The lines of an event file.
+// The lines of an event file: one for each 24 bytes, and one for what is left over at its end.
 pub fn listing(heap: Global, file: &[u8]) -> Result<Vec<Line>, AllocError>
     ensures { IfOk result (λ v. Lists 1 file.now v.items) }
 {
-    let mut lines = Vec::new(heap);
-    fill(&mut lines, file)?;
-    Ok(lines)
+    file.chunks(RECORD_LENGTH)
+        .enumerate()
+        .map(|(index, piece)| Line::of(index + 1, piece))
+        .collect(heap)
 }
