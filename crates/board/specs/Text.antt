@@ -1,17 +1,13 @@
 -- The text of a report's lines. Assumes nothing.
 use Rattle.std.specs.Prelude.{ℕ, List, [], ◌∷◌, ◌++◌, Ok, Err, codes, decimal, Result}
 use Rattle.std.proofs.Math.Utf8.{encode}
+use Rattle.market.specs.Text.{numbers}
 use Rattle.market.specs.declared.Answer.{Answer}
 use Rattle.market.specs.declared.Summary.{Summary}
 use Rattle.market.specs.Outcomes.{answer_values}
 use Rattle.day.specs.declared.faults.Fault.{Fault}
 use Rattle.day.specs.Faults.{fault_text}
 use Rattle.board.specs.declared.report.Line.{Line}
-
--- a blank and a number, for each
-abbrev pub numbers : List ℕ → List ℕ
-numbers [] = []
-numbers (n ∷ ns) = codes " " ++ (decimal n ++ numbers ns)
 
 -- `ok` and the answer's values, or `refused` and the fault
 abbrev pub outcome_text : Result Answer Fault → List ℕ

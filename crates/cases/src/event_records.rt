@@ -1,22 +1,17 @@
 // Event records.
-use market::{Event, Side};
-use records::{Malformed, read_event, write_event};
+use crate::tables::{self, Case};
+use market::{Config, Event, Pair, Side};
+use records::{Malformed, read};
 
-// A record by its value and its bytes, and which of these are judged: `#` where one value is right, `.` where any is.
-#[derive(Clone, Copy)]
-struct Case {
-    value: Event,
-    bytes: [u8; 24],
-    judged: [u8; 24],
-}
-
-const CASES: [Case; 10] = [
+const CASES: [Case<Event>; 10] = [
     Case {
         value: Event::Make {
-            dealers: 2,
-            least_quantity: 2000,
-            previous_average: 5000,
-            day_kind: 4,
+            config: Config {
+                dealers: 2,
+                least_quantity: 2000,
+                previous_average: 5000,
+                day_kind: 4,
+            },
             rule: 1,
         },
         bytes: *b"M-\x02\x00\x00\x00\x00\x00\x00\x00\x07\xd0\x00\x00\x13\x88\x00\x00\x00\x04\x00\x00\x00\x01",
@@ -30,10 +25,12 @@ const CASES: [Case; 10] = [
     Case {
         value: Event::Quote {
             dealer: 255,
-            bid: 4900,
-            bid_quantity: 2000,
-            ask: 5000,
-            ask_quantity: 4294967295,
+            pair: Pair {
+                bid: 4900,
+                bid_quantity: 2000,
+                ask: 5000,
+                ask_quantity: 4294967295,
+            },
         },
         bytes: *b"Q-\xff\x00\x00\x00\x00\x00\x00\x00\x13\x24\x00\x00\x07\xd0\x00\x00\x13\x88\xff\xff\xff\xff",
         judged: *b"##.#####................",
@@ -91,53 +88,28 @@ const CASES: [Case; 10] = [
 
 #[test]
 fn each_kind_writes_and_reads(rt: HostRuntime) {
-    for case in CASES {
-        assert_eq!(rt; write_event(&case.value), case.bytes);
-        assert_eq!(rt; read_event(&case.bytes), Ok(case.value));
-    }
+    tables::each_is_written_and_read(&rt, &CASES);
 }
 
-// A byte of another value is wrong at each judged place and at no other; what is then accepted writes back.
 #[test]
 fn each_byte_is_judged(rt: HostRuntime) {
-    for case in CASES {
-        for place in 0..24 {
-            let mut bytes = case.bytes;
-            bytes[place] = 0xee;
-            match read_event(&bytes) {
-                Ok(value) => {
-                    assert_eq!(rt; case.judged[place], b'.');
-                    assert_eq!(rt; write_event(&value), bytes);
-                }
-                Err(malformed) => {
-                    assert_eq!(rt; case.judged[place], b'#');
-                    assert_eq!(rt; malformed, Malformed::Byte { place });
-                }
-            }
-        }
-    }
+    tables::each_byte_is_judged(&rt, &CASES);
 }
 
 // Of two wrong bytes the first counts, a letter of the other format is none here, and a side belongs to an order alone.
 #[test]
 fn the_first_wrong_byte_counts(rt: HostRuntime) {
     let order = b"OX\0\x01\0\0\0\x01\0\0\x13\x24\0\0\x0f\xa0\0\0\0\0\0\0\0\x01";
-    assert_eq!(rt; read_event(order), Err(Malformed::Byte { place: 1 }));
+    assert_eq!(rt; read::<Event>(order), Err(Malformed::Byte { place: 1 }));
     let bell = b"BB\x01\0\0\0\0\0\0\0\0\0\0\0\0\0\0\0\0\0\0\0\0\0";
-    assert_eq!(rt; read_event(bell), Err(Malformed::Byte { place: 1 }));
+    assert_eq!(rt; read::<Event>(bell), Err(Malformed::Byte { place: 1 }));
     let trade = b"TX\x01\x01\0\0\0\0\0\0\0\0\0\0\0\0\0\0\0\0\0\0\0\0";
-    assert_eq!(rt; read_event(trade), Err(Malformed::Byte { place: 0 }));
+    assert_eq!(rt; read::<Event>(trade), Err(Malformed::Byte { place: 0 }));
     let order = b"O-\0\0\0\0\0\0\0\0\x13\x24\0\0\x0f\xa0\0\0\0\0\0\0\0\0";
-    assert_eq!(rt; read_event(order), Err(Malformed::Byte { place: 1 }));
+    assert_eq!(rt; read::<Event>(order), Err(Malformed::Byte { place: 1 }));
 }
 
 #[test]
 fn the_length_counts_before_any_byte(rt: HostRuntime) {
-    let bytes = [0xee; 48];
-    for found in [0, 3, 4, 23, 25, 48] {
-        assert_eq!(rt;
-            read_event(&bytes[0..found]),
-            Err(Malformed::Length { found })
-        );
-    }
+    tables::length_counts_first::<Event>(&rt);
 }

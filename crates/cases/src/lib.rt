@@ -6,4 +6,6 @@ mod event_records;
 #[cfg(test)]
 mod lists;
 #[cfg(test)]
+mod tables;
+#[cfg(test)]
 mod tape_records;

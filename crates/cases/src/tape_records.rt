@@ -1,24 +1,19 @@
 // Tape records.
-use market::{Side, TapeRecord, Trade};
-use records::{Malformed, read_tape, write_tape};
+use crate::tables::{self, Case};
+use market::{Pair, Side, TapeRecord, Trade};
+use records::{Malformed, read};
 
-// A record by its value and its bytes, and which of these are judged: `#` where one value is right, `.` where any is.
-#[derive(Clone, Copy)]
-struct Case {
-    value: TapeRecord,
-    bytes: [u8; 24],
-    judged: [u8; 24],
-}
-
-const CASES: [Case; 8] = [
+const CASES: [Case<TapeRecord>; 8] = [
     Case {
         value: TapeRecord::Quote {
             time: 3060000,
             dealer: 1,
-            bid: 4900,
-            bid_quantity: 2000,
-            ask: 5000,
-            ask_quantity: 3000,
+            pair: Pair {
+                bid: 4900,
+                bid_quantity: 2000,
+                ask: 5000,
+                ask_quantity: 3000,
+            },
         },
         bytes: *b"Q-\x01\x00\x00\x2e\xb1\x20\x00\x00\x13\x24\x00\x00\x07\xd0\x00\x00\x13\x88\x00\x00\x0b\xb8",
         judged: *b"##.#....................",
@@ -98,48 +93,29 @@ const CASES: [Case; 8] = [
 
 #[test]
 fn each_kind_writes_and_reads(rt: HostRuntime) {
-    for case in CASES {
-        assert_eq!(rt; write_tape(&case.value), case.bytes);
-        assert_eq!(rt; read_tape(&case.bytes), Ok(case.value));
-    }
+    tables::each_is_written_and_read(&rt, &CASES);
 }
 
-// A byte of another value is wrong at each judged place and at no other; what is then accepted writes back.
 #[test]
 fn each_byte_is_judged(rt: HostRuntime) {
-    for case in CASES {
-        for place in 0..24 {
-            let mut bytes = case.bytes;
-            bytes[place] = 0xee;
-            match read_tape(&bytes) {
-                Ok(value) => {
-                    assert_eq!(rt; case.judged[place], b'.');
-                    assert_eq!(rt; write_tape(&value), bytes);
-                }
-                Err(malformed) => {
-                    assert_eq!(rt; case.judged[place], b'#');
-                    assert_eq!(rt; malformed, Malformed::Byte { place });
-                }
-            }
-        }
-    }
+    tables::each_byte_is_judged(&rt, &CASES);
 }
 
 #[test]
 fn the_first_wrong_byte_counts(rt: HostRuntime) {
     let trade = b"T-\x01\x01\0\0\0\0\0\0\0\0\0\0\0\0\0\0\0\0\0\0\0\0";
-    assert_eq!(rt; read_tape(trade), Err(Malformed::Byte { place: 1 }));
+    assert_eq!(rt;
+        read::<TapeRecord>(trade),
+        Err(Malformed::Byte { place: 1 })
+    );
     let making = b"MB\x01\x01\0\0\0\0\0\0\0\0\0\0\0\0\0\0\0\0\0\0\0\0";
-    assert_eq!(rt; read_tape(making), Err(Malformed::Byte { place: 0 }));
+    assert_eq!(rt;
+        read::<TapeRecord>(making),
+        Err(Malformed::Byte { place: 0 })
+    );
 }
 
 #[test]
 fn the_length_counts_before_any_byte(rt: HostRuntime) {
-    let bytes = [0xee; 48];
-    for found in [0, 3, 4, 23, 25, 48] {
-        assert_eq!(rt;
-            read_tape(&bytes[0..found]),
-            Err(Malformed::Length { found })
-        );
-    }
+    tables::length_counts_first::<TapeRecord>(&rt);
 }

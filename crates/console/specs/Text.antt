@@ -1,21 +1,17 @@
 -- The text of a line of the listing. Assumes nothing.
 use Rattle.std.specs.Prelude.{ℕ, List, [], ◌∷◌, ◌++◌, Ok, Err, codes, decimal, Result}
+use Rattle.market.specs.Text.{numbers}
 use Rattle.market.specs.declared.Event.{Event}
 use Rattle.market.specs.declared.Side.TheVariants.{Buy, Sell}
 use Rattle.records.specs.declared.Malformed.{Malformed}
 use Rattle.records.specs.declared.Malformed.TheVariants.{Length, Byte}
 use Rattle.console.specs.declared.listing.Line.{Line}
 
--- a blank and a number, for each
-abbrev pub numbers : List ℕ → List ℕ
-numbers [] = []
-numbers (n ∷ ns) = codes " " ++ (decimal n ++ numbers ns)
-
 -- the kind letter and the named values, or `?`, 17, and the wrong byte's place or the length
 abbrev pub said_text : Result Event Malformed → List ℕ
-said_text (Ok (Event.Make dealers least_quantity previous_average day_kind rule)) = codes " M" ++ numbers (dealers ∷ least_quantity ∷ previous_average ∷ day_kind ∷ rule ∷ [])
+said_text (Ok (Event.Make config rule)) = codes " M" ++ numbers (config.dealers ∷ config.least_quantity ∷ config.previous_average ∷ config.day_kind ∷ rule ∷ [])
 said_text (Ok (Event.Clock time)) = codes " N" ++ numbers (time ∷ [])
-said_text (Ok (Event.Quote dealer bid bid_quantity ask ask_quantity)) = codes " Q" ++ numbers (dealer ∷ bid ∷ bid_quantity ∷ ask ∷ ask_quantity ∷ [])
+said_text (Ok (Event.Quote dealer pair)) = codes " Q" ++ numbers (dealer ∷ pair.bid ∷ pair.bid_quantity ∷ pair.ask ∷ pair.ask_quantity ∷ [])
 said_text (Ok (Event.Withdraw dealer)) = codes " W" ++ numbers (dealer ∷ [])
 said_text (Ok Event.Bell) = codes " B"
 said_text (Ok (Event.Order Buy price quantity)) = codes " O B" ++ numbers (price ∷ quantity ∷ [])

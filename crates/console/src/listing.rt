@@ -1,10 +1,11 @@
 // What each record of an event file says, a line each.
-ghost use Rattle.std.specs.Prelude.{◌≡◌, [], IfOk, Some, OnOk};
+ghost use Rattle.std.specs.Prelude.{◌≡◌, IfOk, Some};
+ghost use Rattle.records.specs.Layout.{letter};
 ghost use Rattle.console.specs.Text.{line_text};
 ghost use Rattle.console.specs.Listing.{LineOf, Lists};
 
 use market::{Event, Side};
-use records::{Malformed, RECORD_LENGTH, read_event};
+use records::{Malformed, RECORD_LENGTH, read};
 use std::alloc::{AllocError, Global};
 use std::fmt;
 
@@ -22,8 +23,18 @@ impl Line {
     {
         Line {
             place,
-            said: read_event(bytes),
+            said: read(bytes),
         }
+    }
+}
+
+// The letter of an order's side.
+fn side_letter(side: Side) -> char
+    ensures { result ≡ letter side }
+{
+    match side {
+        Side::Buy => 'B',
+        Side::Sell => 'S',
     }
 }
 
@@ -33,72 +44,42 @@ impl fmt::Display for Line {
     fn fmt<W: fmt::Write>(&self, f: &mut fmt::Formatter<W>) -> fmt::Result {
         let place = self.place;
         match self.said {
-            Ok(
-                Event::Make {
-                    dealers,
-                    least_quantity,
-                    previous_average,
-                    day_kind,
-                    rule,
-                },
-            ) => write!(
+            Ok(Event::Make { config, rule }) => write!(
                 f,
-                "{place} M {dealers} {least_quantity} {previous_average} {day_kind} {rule}"
+                "{place} M {} {} {} {} {rule}",
+                config.dealers, config.least_quantity, config.previous_average, config.day_kind
             ),
             Ok(Event::Clock { time }) => write!(f, "{place} N {time}"),
-            Ok(
-                Event::Quote {
-                    dealer,
-                    bid,
-                    bid_quantity,
-                    ask,
-                    ask_quantity,
-                },
-            ) => write!(
+            Ok(Event::Quote { dealer, pair }) => write!(
                 f,
-                "{place} Q {dealer} {bid} {bid_quantity} {ask} {ask_quantity}"
+                "{place} Q {dealer} {} {} {} {}",
+                pair.bid, pair.bid_quantity, pair.ask, pair.ask_quantity
             ),
             Ok(Event::Withdraw { dealer }) => write!(f, "{place} W {dealer}"),
             Ok(Event::Bell) => write!(f, "{place} B"),
             Ok(
                 Event::Order {
-                    side: Side::Buy,
+                    side,
                     price,
                     quantity,
                 },
-            ) => write!(f, "{place} O B {price} {quantity}"),
-            Ok(
-                Event::Order {
-                    side: Side::Sell,
-                    price,
-                    quantity,
-                },
-            ) => write!(f, "{place} O S {price} {quantity}"),
+            ) => write!(f, "{place} O {} {price} {quantity}", side_letter(side)),
             Ok(Event::Cancel { number, amount }) => write!(f, "{place} C {number} {amount}"),
             Ok(Event::Click { dealer, number }) => write!(f, "{place} K {dealer} {number}"),
             Ok(Event::Close) => write!(f, "{place} E"),
-            Err(Malformed::Length { found }) => write!(f, "{place} ? 17 {found}"),
-            Err(Malformed::Byte { place: byte }) => write!(f, "{place} ? 17 {byte}"),
+            Err(Malformed::Length { found: at } | Malformed::Byte { place: at }) => {
+                write!(f, "{place} ? 17 {at}")
+            }
         }
     }
 }
 
-// Fills an empty listing: a line for each 24 bytes of a file, and one for what is left over at its end.
-fn fill(lines: &mut Vec<Line>, file: &[u8]) -> Result<(), AllocError>
-    requires { lines.old.items ≡ [] }
-    ensures { OnOk result (Lists 1 file.now lines.new.items) }
-{
-    for piece in file.chunks(RECORD_LENGTH) {
-        lines.push(Line::of(lines.len() + 1, piece))?;
-    }
-    Ok(())
-}
-
-// The lines of an event file.
+// The lines of an event file: one for each 24 bytes, and one for what is left over at its end.
 pub fn listing(heap: Global, file: &[u8]) -> Result<Vec<Line>, AllocError>
     ensures { IfOk result (λ v. Lists 1 file.now v.items) }
 {
-    let mut lines = Vec::new(heap);
-    fill(&mut lines, file)?;
-    Ok(lines)
+    file.chunks(RECORD_LENGTH)
+        .enumerate()
+        .map(|(index, piece)| Line::of(index + 1, piece))
+        .collect(heap)
 }

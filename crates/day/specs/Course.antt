@@ -49,9 +49,9 @@ ruled c (Err fault) = Err fault
 
 -- the rule and the numbers of a making; another event is out of turn
 abbrev pub making_of : (place : ℕ) → Event → Result (Ruling × Config) Fault
-making_of place (Event.Make dealers least_quantity previous_average day_kind number) = ruled (record { dealers = dealers; least_quantity = least_quantity; previous_average = previous_average; day_kind = day_kind }) (ruling_of place number)
+making_of place (Event.Make config number) = ruled config (ruling_of place number)
 making_of place (Event.Clock time) = Err (Fault.Day place Refusal.OutOfTurn)
-making_of place (Event.Quote dealer bid bid_quantity ask ask_quantity) = Err (Fault.Day place Refusal.OutOfTurn)
+making_of place (Event.Quote dealer pair) = Err (Fault.Day place Refusal.OutOfTurn)
 making_of place (Event.Withdraw dealer) = Err (Fault.Day place Refusal.OutOfTurn)
 making_of place Event.Bell = Err (Fault.Day place Refusal.OutOfTurn)
 making_of place (Event.Order side price quantity) = Err (Fault.Day place Refusal.OutOfTurn)

@@ -9,7 +9,7 @@ use crate::stages::{Day, Ruling, Stage};
 use book::memory::Memory;
 use market::{Answer, Config, Event, Refusal, Summary};
 use precedence::rules::{Size, Time};
-use records::read_event;
+use records::read;
 use session::states::PreOpen;
 use std::mem;
 
@@ -17,7 +17,7 @@ use std::mem;
 fn read_at(place: u32, bytes: &[u8]) -> Result<Event, Misread>
     ensures { ReadAt place bytes.now result }
 {
-    match read_event(bytes) {
+    match read::<Event>(bytes) {
         Ok(event) => Ok(event),
         Err(malformed) => Err(Misread { place, malformed }),
     }
@@ -41,24 +41,11 @@ fn ruling_at(place: u32, number: u32) -> Result<Ruling, Misplaced>
 fn making_at(place: u32, event: &Event) -> Result<(Ruling, Config), Misplaced>
     ensures { by_day result ≡ making_of place event.now }
 {
-    let Event::Make {
-        dealers,
-        least_quantity,
-        previous_average,
-        day_kind,
-        rule,
-    } = *event
-    else {
+    let Event::Make { config, rule } = *event else {
         return Err(Misplaced {
             place,
             refusal: Refusal::OutOfTurn,
         });
-    };
-    let config = Config {
-        dealers,
-        least_quantity,
-        previous_average,
-        day_kind,
     };
     Ok((ruling_at(place, rule)?, config))
 }

@@ -5,7 +5,7 @@ ghost use Rattle.day.specs.Running.{Stepped, summary_of_closed};
 ghost use Rattle.day.specs.declared.running.Session.TheVariants as phase;
 
 use book::memory::Memory;
-use market::{Answer, Event, Pair, Refusal, Summary};
+use market::{Answer, Event, Refusal, Summary};
 use precedence::rules::Rule;
 use session::states::{Closed, Open, PreOpen};
 
@@ -31,19 +31,7 @@ fn before_bell<R: Rule>(
             let outcome = session.step(rule, memory, time);
             (Session::Early(session), outcome)
         }
-        Event::Quote {
-            dealer,
-            bid,
-            bid_quantity,
-            ask,
-            ask_quantity,
-        } => {
-            let pair = Pair {
-                bid,
-                bid_quantity,
-                ask,
-                ask_quantity,
-            };
+        Event::Quote { dealer, pair } => {
             let outcome = session.quote(rule, memory, dealer, pair);
             (Session::Early(session), outcome)
         }

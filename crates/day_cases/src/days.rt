@@ -3,8 +3,8 @@ use crate::stores::{ALL_LATE, FIRST, NO_ORDER, NO_QUOTE, NO_RECORD, SECOND};
 use book::memory::Memory;
 use day::faults::Fault;
 use day::stages::Day;
-use market::{Answer, Event, Refusal, Summary};
-use records::{Malformed, write_event};
+use market::{Answer, Config, Event, Refusal, Summary};
+use records::{Malformed, write};
 use std::alloc::Global;
 use std::process::Abort;
 use std::test::Fail;
@@ -28,10 +28,12 @@ const QUOTED: Taken = Ok(Answer::Quoted {
 
 const fn make(dealers: u8, rule: u32) -> Record {
     Record::Of(Event::Make {
-        dealers,
-        least_quantity: 2000,
-        previous_average: 5000,
-        day_kind: 0,
+        config: Config {
+            dealers,
+            least_quantity: 2000,
+            previous_average: 5000,
+            day_kind: 0,
+        },
         rule,
     })
 }
@@ -60,9 +62,9 @@ const fn by_session(place: u32, refusal: Refusal) -> Taken {
 
 fn hand(day: &mut Day, memory: &mut Memory, record: Record) -> Taken {
     match record {
-        Record::Of(event) => day.take(memory, &write_event(&event)),
+        Record::Of(event) => day.take(memory, &write(&event)),
         Record::Wrong(place) => {
-            let mut bytes = write_event(&Event::Bell);
+            let mut bytes = write(&Event::Bell);
             if let Some(byte) = bytes.get_mut(place) {
                 *byte = 0xee;
             }

@@ -1,7 +1,7 @@
 // Quotes before the bell: what is refused, and where they stand.
 use crate::stores::{NO_QUOTE, QUOTED, Ran, play};
 use day::running::Outcome;
-use market::{Event, Quote, Refusal};
+use market::{Event, Pair, Quote, Refusal};
 use precedence::rules::{Rule, Size, Time};
 use std::alloc::Global;
 use std::process::Abort;
@@ -124,13 +124,13 @@ fn play_rows<R: Rule>(
     let mut steps = Vec::new(heap);
     for row in rows {
         let (dealer, bid, bid_quantity, ask, ask_quantity, outcome) = *row;
-        let event = Event::Quote {
-            dealer,
+        let pair = Pair {
             bid,
             bid_quantity,
             ask,
             ask_quantity,
         };
+        let event = Event::Quote { dealer, pair };
         steps.push((event, outcome))?;
     }
     play(rt, heap, rule, dealers, steps.as_slice())

@@ -1,7 +1,7 @@
 // Withdrawals, clock steps, turns, duties and full tapes, in runs of events.
 use crate::stores::{FIRST, NO_RECORD, QUOTED, Ran, SECOND, STEPPED, Step, play};
 use day::running::Outcome;
-use market::{Answer, Duty, Event, Refusal, Side, Summary, TapeRecord};
+use market::{Answer, Config, Duty, Event, Pair, Refusal, Side, Summary, TapeRecord};
 use precedence::rules::{Size, Time};
 use std::alloc::Global;
 use std::process::Abort;
@@ -61,10 +61,12 @@ const CLOCKS: [Step; 19] = [
 ];
 
 const MAKE: Event = Event::Make {
-    dealers: 3,
-    least_quantity: 2000,
-    previous_average: 5000,
-    day_kind: 0,
+    config: Config {
+        dealers: 3,
+        least_quantity: 2000,
+        previous_average: 5000,
+        day_kind: 0,
+    },
     rule: 1,
 };
 
@@ -207,10 +209,12 @@ const TOLD: [TapeRecord; 6] = [
     TapeRecord::Quote {
         time: 3060000,
         dealer: 1,
-        bid: 4900,
-        bid_quantity: 2000,
-        ask: 5000,
-        ask_quantity: 3000,
+        pair: Pair {
+            bid: 4900,
+            bid_quantity: 2000,
+            ask: 5000,
+            ask_quantity: 3000,
+        },
     },
     TapeRecord::Withdrawal {
         time: 3250000,
@@ -265,10 +269,12 @@ fn play_filled(rt: &impl Abort, heap: Global, dealers: u8, rest: &[Step]) -> Res
 
 const TOO_WIDE: Event = Event::Quote {
     dealer: 2,
-    bid: 4000,
-    bid_quantity: 2000,
-    ask: 5000,
-    ask_quantity: 2000,
+    pair: Pair {
+        bid: 4000,
+        bid_quantity: 2000,
+        ask: 5000,
+        ask_quantity: 2000,
+    },
 };
 
 // Of 2 dealers.

@@ -3,7 +3,7 @@ use book::duties::Duties;
 use book::memory::Memory;
 use day::running::Outcome;
 use day::runs::run;
-use market::{Answer, Config, Duty, Event, Order, Quote, Summary, TapeRecord};
+use market::{Answer, Config, Duty, Event, Order, Pair, Quote, Summary, TapeRecord};
 use precedence::rules::Rule;
 use std::alloc::{AllocError, Global};
 use std::process::Abort;
@@ -70,18 +70,22 @@ pub type Step = (Event, Outcome);
 // The quotes of dealers 1 and 2, and what comes of a quote before the bell.
 pub const FIRST: Event = Event::Quote {
     dealer: 1,
-    bid: 4900,
-    bid_quantity: 2000,
-    ask: 5000,
-    ask_quantity: 3000,
+    pair: Pair {
+        bid: 4900,
+        bid_quantity: 2000,
+        ask: 5000,
+        ask_quantity: 3000,
+    },
 };
 
 pub const SECOND: Event = Event::Quote {
     dealer: 2,
-    bid: 4900,
-    bid_quantity: 3000,
-    ask: 5000,
-    ask_quantity: 2000,
+    pair: Pair {
+        bid: 4900,
+        bid_quantity: 3000,
+        ask: 5000,
+        ask_quantity: 2000,
+    },
 };
 
 pub const QUOTED: Outcome = Ok(Answer::Quoted {

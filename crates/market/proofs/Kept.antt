@@ -36,9 +36,9 @@ Resting quotes orders = (side : Side) → NoService side (quotes (other_side sid
 
 -- what is asked of an accepted order: that it was told its number, and of its side, its quantity and that number
 abbrev pub IfOrder : (Side → (quantity number : ℕ) → Type 0) → (count : ℕ) → Event → Result Answer Refusal → Type 0
-IfOrder P count (Event.Make dealers least_quantity previous_average day_kind rule) r = Unit {0}
+IfOrder P count (Event.Make config rule) r = Unit {0}
 IfOrder P count (Event.Clock time) r = Unit {0}
-IfOrder P count (Event.Quote dealer bid bid_quantity ask ask_quantity) r = Unit {0}
+IfOrder P count (Event.Quote dealer pair) r = Unit {0}
 IfOrder P count (Event.Withdraw dealer) r = Unit {0}
 IfOrder P count Event.Bell r = Unit {0}
 IfOrder P count (Event.Order side price quantity) (Ok answer) = (told_number answer ≡ Some (count + 1)) × P side quantity (count + 1)
@@ -80,9 +80,9 @@ pub record Kept (rule : Precedence) (least : ℕ) (s : State) (log : List Entry)
 
 -- what follows for each accepted order follows for each entry
 if_order_weaker : (P Q : Side → ℕ → ℕ → Type 0) → ((side : Side) (quantity n : ℕ) → P side quantity n → Q side quantity n) → (count : ℕ) (event : Event) (r : Result Answer Refusal) → IfOrder P count event r → IfOrder Q count event r
-if_order_weaker P Q f count (Event.Make dealers least_quantity previous_average day_kind rule) r h = tt
+if_order_weaker P Q f count (Event.Make config rule) r h = tt
 if_order_weaker P Q f count (Event.Clock time) r h = tt
-if_order_weaker P Q f count (Event.Quote dealer bid bid_quantity ask ask_quantity) r h = tt
+if_order_weaker P Q f count (Event.Quote dealer pair) r h = tt
 if_order_weaker P Q f count (Event.Withdraw dealer) r h = tt
 if_order_weaker P Q f count Event.Bell r h = tt
 if_order_weaker P Q f count (Event.Order side price quantity) (Ok answer) h = (h.0, f side quantity (count + 1) h.1)
@@ -92,9 +92,9 @@ if_order_weaker P Q f count (Event.Click dealer number) r h = tt
 if_order_weaker P Q f count Event.Close r h = tt
 
 accounted_from : (s : State) (log : List Entry) (count : ℕ) (event : Event) (r : Result Answer Refusal) → IfOrder (Held s log) count event r → Accounted s.lists log count event r
-accounted_from s log count (Event.Make dealers least_quantity previous_average day_kind rule) r h = tt
+accounted_from s log count (Event.Make config rule) r h = tt
 accounted_from s log count (Event.Clock time) r h = tt
-accounted_from s log count (Event.Quote dealer bid bid_quantity ask ask_quantity) r h = tt
+accounted_from s log count (Event.Quote dealer pair) r h = tt
 accounted_from s log count (Event.Withdraw dealer) r h = tt
 accounted_from s log count Event.Bell r h = tt
 accounted_from s log count (Event.Order side price quantity) (Ok answer) h = (h.0, h.1.all_found)

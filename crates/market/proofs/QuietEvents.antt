@@ -29,9 +29,9 @@ use Rattle.market.proofs.StepKinds.{NoneHolds}
 
 -- a refused event is no order and no cancellation
 refused_nothing : (count n : ℕ) (event : Event) (why : Refusal) → IfOrder (λ _ _ _. ⊥) count event (Err why) × (cancelled_by n event (Err why) ≡ 0)
-refused_nothing count n (Event.Make dealers least_quantity previous_average day_kind rule) why = (tt, refl)
+refused_nothing count n (Event.Make config rule) why = (tt, refl)
 refused_nothing count n (Event.Clock time) why = (tt, refl)
-refused_nothing count n (Event.Quote dealer bid bid_quantity ask ask_quantity) why = (tt, refl)
+refused_nothing count n (Event.Quote dealer pair) why = (tt, refl)
 refused_nothing count n (Event.Withdraw dealer) why = (tt, refl)
 refused_nothing count n Event.Bell why = (tt, refl)
 refused_nothing count n (Event.Order side price quantity) why = (tt, refl)
@@ -112,12 +112,9 @@ module _ (rule : Precedence) (least : ℕ) (s : State) (log : List Entry) (k : K
   least_fits : within 1000 100000 s.config.least_quantity ≡ true
   least_fits = (and_parts _ _ (and_parts _ _ k.standing.made).1).0
 
-  module _ (d bid bid_quantity ask ask_quantity : ℕ) where
-    abbrev its_pair : Pair
-    its_pair = record { bid = bid; bid_quantity = bid_quantity; ask = ask; ask_quantity = ask_quantity }
-
+  module _ (d : ℕ) (p : Pair) where
     abbrev its_record : TapeRecord
-    its_record = TapeRecord.Quote s.clock d bid bid_quantity ask ask_quantity
+    its_record = TapeRecord.Quote s.clock d p
 
     abbrev its_quote : (price quantity : ℕ) → Quote
     its_quote price quantity = new_quote d price quantity (next_number s)
@@ -136,21 +133,21 @@ module _ (rule : Precedence) (least : ℕ) (s : State) (log : List Entry) (k : K
         let some_least = least_fits in
         quotes_replaced rule side s.config.dealers (length s.tape) lawful _ (omega arith) (its_quote price quantity) (omega arith) (grind (arith, nat_tests)) (quotes_of s.lists side) (k.standing.sound.quotes_fit side)
 
-    pub kept_early_quote : LawfulRule rule → s.phase ≡ before_bell → NoneHolds (quote_reasons rule d its_pair s) → After rule least s log (Event.Quote d bid bid_quantity ask ask_quantity) (accept (Answer.Quoted 0 0) (quoted rule d its_pair s))
+    pub kept_early_quote : LawfulRule rule → s.phase ≡ before_bell → NoneHolds (quote_reasons rule d p s) → After rule least s log (Event.Quote d p) (accept (Answer.Quoted 0 0) (quoted rule d p s))
     kept_early_quote lawful early none =
         let dealer_fits = not-false _ none.1.1.0 in
         let prices_fit = and_parts _ _ (not-false _ none.1.1.1.0) in
         let quantities_fit = and_parts _ _ (not-false _ none.1.1.1.1.0) in
-        quiet_kept rule least s log k.standing (Event.Quote d bid bid_quantity ask ask_quantity) _ s.phase s.clock
-        (both_sides (λ _. List Quote) (with_quote Buy bid bid_quantity) (with_quote Sell ask ask_quantity)) _ _ (its_record ∷ [])
+        quiet_kept rule least s log k.standing (Event.Quote d p) _ s.phase s.clock
+        (both_sides (λ _. List Quote) (with_quote Buy p.bid p.bid_quantity) (with_quote Sell p.ask p.ask_quantity)) _ _ (its_record ∷ [])
         (record {
           tape_grows = refl;
           no_trades = (λ x e. never (cc), tt);
           not_before = λ e. e;
           quotes_fit_still =
-              both_sides _ (fits_with lawful Buy bid bid_quantity dealer_fits prices_fit.0 quantities_fit.0)
-              (fits_with lawful Sell ask ask_quantity dealer_fits prices_fit.1 quantities_fit.1);
-          quotes_told_still = both_sides _ (told_with Buy bid bid_quantity) (told_with Sell ask ask_quantity);
+              both_sides _ (fits_with lawful Buy p.bid p.bid_quantity dealer_fits prices_fit.0 quantities_fit.0)
+              (fits_with lawful Sell p.ask p.ask_quantity dealer_fits prices_fit.1 quantities_fit.1);
+          quotes_told_still = both_sides _ (told_with Buy p.bid p.bid_quantity) (told_with Sell p.ask p.ask_quantity);
           orders_told_still = λ _. refl;
           no_order = tt;
           no_cancel = λ _. refl;

@@ -25,7 +25,7 @@ step_appends : (rule : Precedence) (event : Event) (s : State) → Appends s (st
 step_appends rule event s = at_step rule s (λ _. Appends s) (record {
   refused = λ _ _. ([], sym (append-nil s.tape));
   clock_set = λ t _. (becoming_late t s, refl);
-  quoted_early = λ _ _ _ _ _ _ _. (_, refl);
+  quoted_early = λ _ _ _ _. (_, refl);
   withdrew = λ _ _. (_, refl);
   rang = λ _. ([], sym (append-nil s.tape));
   closed = ([], sym (append-nil s.tape));
@@ -89,7 +89,7 @@ module _ (rule : Precedence) (lawful : LawfulRule rule) where
   kept_step least s log k = at_step rule s (After rule least s log) (record {
     refused = kept_refused rule least s log k;
     clock_set = kept_clock rule least s log k;
-    quoted_early = λ early d bid bid_quantity ask ask_quantity. kept_early_quote rule least s log k d bid bid_quantity ask ask_quantity lawful early;
+    quoted_early = λ early d p. kept_early_quote rule least s log k d p lawful early;
     withdrew = kept_withdrawal rule least s log k;
     rang = kept_bell rule least s log k;
     closed = kept_close rule least s log k;

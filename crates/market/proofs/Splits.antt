@@ -55,7 +55,7 @@ NoTrade r = (t : Trade) → r ≡ TapeRecord.Trade t → ⊥
 
 -- such a record changes no plain book, and trades nothing of any order
 no_trade_tells : (r : TapeRecord) → NoTrade r → (book : PlainBook) (n : ℕ) → (after_record book r ≡ book) × (traded_of n r ≡ 0)
-no_trade_tells (TapeRecord.Quote time dealer bid bid_quantity ask ask_quantity) none book n = (refl, refl)
+no_trade_tells (TapeRecord.Quote time dealer pair) none book n = (refl, refl)
 no_trade_tells (TapeRecord.Withdrawal time dealer) none book n = (refl, refl)
 no_trade_tells (TapeRecord.Order time side price quantity) none book n = (refl, refl)
 no_trade_tells (TapeRecord.Cancellation time side number quantity) none book n = (refl, refl)

@@ -40,7 +40,7 @@ settled_both P s h = cond_both (watching s.phase s.halted) _ s P (λ _. h _) (λ
 pub record EachKind (rule : Precedence) (s : State) (P : Event → Step → Type 0) : Type 0 where
   pub refused : (event : Event) (why : Refusal) → P event (refuse why s)
   pub clock_set : (t : ℕ) (duties : List Duty) → P (Event.Clock t) (accept (Answer.Stepped (length (becoming_late t s))) (with_duties duties (stepped t s)))
-  pub quoted_early : s.phase ≡ before_bell → (d bid bid_quantity ask ask_quantity : ℕ) → let p : Pair = record { bid = bid; bid_quantity = bid_quantity; ask = ask; ask_quantity = ask_quantity } in NoneHolds (quote_reasons rule d p s) → P (Event.Quote d bid bid_quantity ask ask_quantity) (accept (Answer.Quoted 0 0) (quoted rule d p s))
+  pub quoted_early : s.phase ≡ before_bell → (d : ℕ) (p : Pair) → NoneHolds (quote_reasons rule d p s) → P (Event.Quote d p) (accept (Answer.Quoted 0 0) (quoted rule d p s))
   pub withdrew : (d : ℕ) (duties : List Duty) → P (Event.Withdraw d) (accept Answer.Withdrawn (with_duties duties (withdrawn d s)))
   pub rang : (duties : List Duty) → P Event.Bell (accept Answer.Rung (with_duties duties (moved_to trading bell_clock s)))
   pub closed : P Event.Close (close_step s)
@@ -61,25 +61,23 @@ module _ (rule : Precedence) (s : State) (P : Event → Step → Type 0) (h : Ea
   unfolding bell_step
   at_bell = settling Event.Bell (bell_reasons rule s) Answer.Rung (moved_to trading bell_clock s) h.rang
 
-  at_early_quote : s.phase ≡ before_bell → (d bid bid_quantity ask ask_quantity : ℕ) → P (Event.Quote d bid bid_quantity ask ask_quantity) (early_quote_step rule d (record { bid = bid; bid_quantity = bid_quantity; ask = ask; ask_quantity = ask_quantity }) s)
+  at_early_quote : s.phase ≡ before_bell → (d : ℕ) (p : Pair) → P (Event.Quote d p) (early_quote_step rule d p s)
   unfolding early_quote_step
-  at_early_quote e d bid bid_quantity ask ask_quantity =
-      let p : Pair = record { bid = bid; bid_quantity = bid_quantity; ask = ask; ask_quantity = ask_quantity } in
-      unless_both (P (Event.Quote d bid bid_quantity ask ask_quantity)) s (accept (Answer.Quoted 0 0) (quoted rule d p s)) (quote_reasons rule d p s) (h.refused _) (h.quoted_early e d bid bid_quantity ask ask_quantity)
+  at_early_quote e d p = unless_both (P (Event.Quote d p)) s (accept (Answer.Quoted 0 0) (quoted rule d p s)) (quote_reasons rule d p s) (h.refused _) (h.quoted_early e d p)
 
   at_each : (phase : Phase) → s.phase ≡ phase → (event : Event) → P event (step_in phase rule event s)
-  at_each before_bell e (Event.Make dealers least_quantity previous_average day_kind number) = h.refused _ Refusal.OutOfTurn
+  at_each before_bell e (Event.Make config number) = h.refused _ Refusal.OutOfTurn
   at_each before_bell e (Event.Clock time) = at_clock time
-  at_each before_bell e (Event.Quote dealer bid bid_quantity ask ask_quantity) = at_early_quote e dealer bid bid_quantity ask ask_quantity
+  at_each before_bell e (Event.Quote dealer pair) = at_early_quote e dealer pair
   at_each before_bell e (Event.Withdraw dealer) = at_withdrawal dealer
   at_each before_bell e Event.Bell = at_bell
   at_each before_bell e (Event.Order side price quantity) = h.refused _ Refusal.OutOfTurn
   at_each before_bell e (Event.Cancel number amount) = h.refused _ Refusal.OutOfTurn
   at_each before_bell e (Event.Click dealer number) = h.refused _ Refusal.OutOfTurn
   at_each before_bell e Event.Close = h.refused _ Refusal.OutOfTurn
-  at_each trading e (Event.Make dealers least_quantity previous_average day_kind number) = h.refused _ Refusal.OutOfTurn
+  at_each trading e (Event.Make config number) = h.refused _ Refusal.OutOfTurn
   at_each trading e (Event.Clock time) = at_clock time
-  at_each trading e (Event.Quote dealer bid bid_quantity ask ask_quantity) = h.refused _ Refusal.OutOfTurn
+  at_each trading e (Event.Quote dealer pair) = h.refused _ Refusal.OutOfTurn
   at_each trading e (Event.Withdraw dealer) = at_withdrawal dealer
   at_each trading e Event.Bell = h.refused _ Refusal.OutOfTurn
   at_each trading e (Event.Order side price quantity) = h.refused _ Refusal.OutOfTurn

@@ -174,7 +174,7 @@ quoted rule d p s = record {
     sells = s.lists.sells;
   };
   duties = slice_set s.duties (d - 1) Duty.InOrder;
-  tape = s.tape ++ TapeRecord.Quote s.clock d p.bid p.bid_quantity p.ask p.ask_quantity ∷ [];
+  tape = s.tape ++ TapeRecord.Quote s.clock d p ∷ [];
 }
 
 -- before the bell a quote trades nothing
@@ -308,9 +308,9 @@ summary_of q v = record { shares = q; value = v; average = cond (q == 0) 0 ((2 *
 -- ---- all events
 
 abbrev pub before_bell_step : Precedence → Event → State → Step
-before_bell_step rule (Event.Make dealers least_quantity previous_average day_kind number) s = refuse Refusal.OutOfTurn s
+before_bell_step rule (Event.Make config number) s = refuse Refusal.OutOfTurn s
 before_bell_step rule (Event.Clock time) s = clock_step rule time s
-before_bell_step rule (Event.Quote dealer bid bid_quantity ask ask_quantity) s = early_quote_step rule dealer (record { bid = bid; bid_quantity = bid_quantity; ask = ask; ask_quantity = ask_quantity }) s
+before_bell_step rule (Event.Quote dealer pair) s = early_quote_step rule dealer pair s
 before_bell_step rule (Event.Withdraw dealer) s = withdrawal_step rule dealer s
 before_bell_step rule Event.Bell s = bell_step rule s
 before_bell_step rule (Event.Order side price quantity) s = refuse Refusal.OutOfTurn s
@@ -319,9 +319,9 @@ before_bell_step rule (Event.Click dealer number) s = refuse Refusal.OutOfTurn s
 before_bell_step rule Event.Close s = refuse Refusal.OutOfTurn s
 
 abbrev pub trading_step : Precedence → Event → State → Step
-trading_step rule (Event.Make dealers least_quantity previous_average day_kind number) s = refuse Refusal.OutOfTurn s
+trading_step rule (Event.Make config number) s = refuse Refusal.OutOfTurn s
 trading_step rule (Event.Clock time) s = clock_step rule time s
-trading_step rule (Event.Quote dealer bid bid_quantity ask ask_quantity) s = refuse Refusal.OutOfTurn s
+trading_step rule (Event.Quote dealer pair) s = refuse Refusal.OutOfTurn s
 trading_step rule (Event.Withdraw dealer) s = withdrawal_step rule dealer s
 trading_step rule Event.Bell s = refuse Refusal.OutOfTurn s
 trading_step rule (Event.Order side price quantity) s = refuse Refusal.OutOfTurn s

@@ -73,7 +73,7 @@ BestServed rule least log =
 
 -- what a record trades of an order
 abbrev pub traded_of : (number : ℕ) → TapeRecord → ℕ
-traded_of n (TapeRecord.Quote time dealer bid bid_quantity ask ask_quantity) = 0
+traded_of n (TapeRecord.Quote time dealer pair) = 0
 traded_of n (TapeRecord.Withdrawal time dealer) = 0
 traded_of n (TapeRecord.Order time side price quantity) = 0
 traded_of n (TapeRecord.Cancellation time side number quantity) = 0
@@ -101,9 +101,9 @@ cancelled_shares Answer.Closed = 0
 
 -- what an event cancelled of an order, by its answer; a refused one nothing
 abbrev pub cancelled_by : (number : ℕ) → Event → Result Answer Refusal → ℕ
-cancelled_by n (Event.Make dealers least_quantity previous_average day_kind rule) r = 0
+cancelled_by n (Event.Make config rule) r = 0
 cancelled_by n (Event.Clock time) r = 0
-cancelled_by n (Event.Quote dealer bid bid_quantity ask ask_quantity) r = 0
+cancelled_by n (Event.Quote dealer pair) r = 0
 cancelled_by n (Event.Withdraw dealer) r = 0
 cancelled_by n Event.Bell r = 0
 cancelled_by n (Event.Order side price quantity) r = 0
@@ -134,9 +134,9 @@ told_number Answer.Closed = None
 
 -- where the event is an accepted order, the customer was told the number that it got, and all its shares are found again under it
 abbrev pub Accounted : Lists → List Entry → (count : ℕ) → Event → Result Answer Refusal → Type 0
-Accounted lists log count (Event.Make dealers least_quantity previous_average day_kind rule) r = Unit {0}
+Accounted lists log count (Event.Make config rule) r = Unit {0}
 Accounted lists log count (Event.Clock time) r = Unit {0}
-Accounted lists log count (Event.Quote dealer bid bid_quantity ask ask_quantity) r = Unit {0}
+Accounted lists log count (Event.Quote dealer pair) r = Unit {0}
 Accounted lists log count (Event.Withdraw dealer) r = Unit {0}
 Accounted lists log count Event.Bell r = Unit {0}
 Accounted lists log count (Event.Order side price quantity) (Ok answer) = (told_number answer ≡ Some (count + 1)) × (quantity ≡ found_again lists log side (count + 1))

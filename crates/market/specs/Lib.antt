@@ -7,3 +7,4 @@ pub mod State
 pub mod Events
 pub mod PlainBook
 pub mod Guarantee
+pub mod Text

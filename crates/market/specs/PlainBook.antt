@@ -118,11 +118,11 @@ after_click least count dealer (Some o) book = put_quote (other_side o.side) dea
 
 -- the book after an accepted event by itself, before its trades; a new quote or order gets the tape's count before the event plus 1
 abbrev pub after_accepted : (least count : ℕ) → Event → PlainBook → PlainBook
-after_accepted least count (Event.Make dealers least_quantity previous_average day_kind number) book = book
+after_accepted least count (Event.Make config number) book = book
 after_accepted least count (Event.Clock time) book = book
-after_accepted least count (Event.Quote dealer bid bid_quantity ask ask_quantity) book =
-    put_quote Sell dealer (Some (new_quote dealer ask ask_quantity (count + 1)))
-    (put_quote Buy dealer (Some (new_quote dealer bid bid_quantity (count + 1))) book)
+after_accepted least count (Event.Quote dealer pair) book =
+    put_quote Sell dealer (Some (new_quote dealer pair.ask pair.ask_quantity (count + 1)))
+    (put_quote Buy dealer (Some (new_quote dealer pair.bid pair.bid_quantity (count + 1))) book)
 after_accepted least count (Event.Withdraw dealer) book = put_quote Sell dealer None (put_quote Buy dealer None book)
 after_accepted least count Event.Bell book = book
 after_accepted least count (Event.Order side price quantity) book = put_order (count + 1) (Some (new_order (count + 1) side price quantity)) book
@@ -142,7 +142,7 @@ after_trade t book =
 
 -- the book after a record: one that is no trade changes nothing
 abbrev pub after_record : PlainBook → TapeRecord → PlainBook
-after_record book (TapeRecord.Quote time dealer bid bid_quantity ask ask_quantity) = book
+after_record book (TapeRecord.Quote time dealer pair) = book
 after_record book (TapeRecord.Withdrawal time dealer) = book
 after_record book (TapeRecord.Order time side price quantity) = book
 after_record book (TapeRecord.Cancellation time side number quantity) = book

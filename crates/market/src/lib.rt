@@ -75,16 +75,35 @@ impl Order {
     }
 }
 
+// What a session is made from. The numbers are as they were handed in: the making says whether they are allowed.
+#[derive(Clone, Copy, PartialEq, Eq, Debug)]
+pub struct Config {
+    // Dealers go by the numbers from 1 to this one.
+    pub dealers: u8,
+    // What each side of a quote is entered with at the least.
+    pub least_quantity: u32,
+    // The previous day's weighted average price.
+    pub previous_average: u32,
+    // 0 for an ordinary day; 1 to 4 for the days that are not.
+    pub day_kind: u32,
+}
+
+// Both prices of a dealer with their quantities, as it enters them.
+#[derive(Clone, Copy, PartialEq, Eq, Debug)]
+pub struct Pair {
+    pub bid: u32,
+    pub bid_quantity: u32,
+    pub ask: u32,
+    pub ask_quantity: u32,
+}
+
 // What can be asked of a day, one kind for each record of an event file.
 // The numbers are as the record has them: whether they are allowed is for the session to say.
 #[derive(Clone, Copy, PartialEq, Eq, Debug)]
 pub enum Event {
     // Makes the session, under the rule of precedence of this number.
     Make {
-        dealers: u8,
-        least_quantity: u32,
-        previous_average: u32,
-        day_kind: u32,
+        config: Config,
         rule: u32,
     },
     // Sets the clock, in hundredths of a second since midnight.
@@ -94,10 +113,7 @@ pub enum Event {
     // Replaces a dealer's bid and ask.
     Quote {
         dealer: u8,
-        bid: u32,
-        bid_quantity: u32,
-        ask: u32,
-        ask_quantity: u32,
+        pair: Pair,
     },
     // Takes a dealer's quotes away.
     Withdraw {
@@ -144,10 +160,7 @@ pub enum TapeRecord {
     Quote {
         time: u32,
         dealer: u8,
-        bid: u32,
-        bid_quantity: u32,
-        ask: u32,
-        ask_quantity: u32,
+        pair: Pair,
     },
     Withdrawal {
         time: u32,
@@ -189,28 +202,6 @@ pub enum TapeRecord {
     },
 }
 
-// What a session is made from. The numbers are as they were handed in: the making says whether they are allowed.
-#[derive(Clone, Copy, PartialEq, Eq, Debug)]
-pub struct Config {
-    // Dealers go by the numbers from 1 to this one.
-    pub dealers: u8,
-    // What each side of a quote is entered with at the least.
-    pub least_quantity: u32,
-    // The previous day's weighted average price.
-    pub previous_average: u32,
-    // 0 for an ordinary day; 1 to 4 for the days that are not.
-    pub day_kind: u32,
-}
-
-// Both prices of a dealer with their quantities, as it enters them.
-#[derive(Clone, Copy, PartialEq, Eq, Debug)]
-pub struct Pair {
-    pub bid: u32,
-    pub bid_quantity: u32,
-    pub ask: u32,
-    pub ask_quantity: u32,
-}
-
 // How a dealer stands to its duty to quote both sides.
 #[derive(Clone, Copy, PartialEq, Eq, Debug)]
 pub enum Duty {
@@ -239,24 +230,24 @@ pub enum Answer {
 // Why an event is refused.
 #[derive(Clone, Copy, PartialEq, Eq, Debug)]
 pub enum Refusal {
-    UnlawfulBook,
-    Halted,
-    UnknownDealer,
-    PriceOutOfRange,
-    QuantityOutOfRange,
-    BadSpread,
-    OutsideOrderRange,
-    ListFull,
-    TapeFull,
-    NoSuchOrder,
-    LacksQuote,
-    AlreadyReached,
-    BeyondOwnQuote,
-    ClockOutOfRange,
-    BadConfig,
-    BadAmount,
-    OutOfTurn,
-    NoQuote,
+    UnlawfulBook = 1,
+    Halted = 2,
+    UnknownDealer = 3,
+    PriceOutOfRange = 4,
+    QuantityOutOfRange = 5,
+    BadSpread = 6,
+    OutsideOrderRange = 7,
+    ListFull = 8,
+    TapeFull = 9,
+    NoSuchOrder = 10,
+    LacksQuote = 11,
+    AlreadyReached = 12,
+    BeyondOwnQuote = 13,
+    ClockOutOfRange = 14,
+    BadConfig = 15,
+    BadAmount = 16,
+    OutOfTurn = 18,
+    NoQuote = 19,
 }
 
 impl Refusal {
@@ -264,26 +255,7 @@ impl Refusal {
     pub fn number(&self) -> u8
         ensures { result ≡ refusal_number self.now }
     {
-        match self {
-            Refusal::UnlawfulBook => 1,
-            Refusal::Halted => 2,
-            Refusal::UnknownDealer => 3,
-            Refusal::PriceOutOfRange => 4,
-            Refusal::QuantityOutOfRange => 5,
-            Refusal::BadSpread => 6,
-            Refusal::OutsideOrderRange => 7,
-            Refusal::ListFull => 8,
-            Refusal::TapeFull => 9,
-            Refusal::NoSuchOrder => 10,
-            Refusal::LacksQuote => 11,
-            Refusal::AlreadyReached => 12,
-            Refusal::BeyondOwnQuote => 13,
-            Refusal::ClockOutOfRange => 14,
-            Refusal::BadConfig => 15,
-            Refusal::BadAmount => 16,
-            Refusal::OutOfTurn => 18,
-            Refusal::NoQuote => 19,
-        }
+        *self as u8
     }
 }
 

@@ -1,12 +1,7 @@
 -- A word and its four bytes. Assumes nothing.
-use Rattle.std.proofs.Common.{◌≡◌, ℕ, ◌+◌, ◌-◌, ◌*◌, ◌/◌, ◌%◌, ◌^◌, ◌<◌, ◌≤◌, List, [], ◌∷◌, ◌++◌, length, get_or, take, drop, sym, refl, ap, arith}
-use Rattle.std.proofs.lemmas.List.{take_all, nil_from_length}
-use Rattle.std.proofs.lemmas.Nat.{shr-shr}
-use Rattle.records.specs.Layout.{word_bytes, words}
-
--- the number that four bytes stand for, the highest first
-abbrev pub number : (w x y z : ℕ) → ℕ
-number w x y z = w * 16777216 + x * 65536 + y * 256 + z
+use Rattle.std.proofs.Common.{◌≡◌, ℕ, ◌/◌, ◌%◌, ◌<◌, ◌≤◌, List, [], ◌∷◌, ◌++◌, length, get_or, take, drop, sym, ap, arith}
+use Rattle.records.specs.Layout.{word_bytes}
+use Rattle.records.specs.Inverses.{number}
 
 four_bytes : (w x y z : ℕ) → w < 256 → x < 256 → y < 256 → z < 256 → word_bytes (number w x y z) ≡ w ∷ x ∷ y ∷ z ∷ []
 four_bytes w x y z hw hx hy hz =
@@ -17,27 +12,9 @@ four_bytes w x y z hw hx hy hz =
     cc
 
 -- the first four bytes of a list are those of the number that they stand for
-pub front_word : (xs : List ℕ) (n : ℕ) → 4 ≤ length xs → get_or xs 0 0 < 256 → get_or xs 1 0 < 256 → get_or xs 2 0 < 256 → get_or xs 3 0 < 256 → n ≡ number (get_or xs 0 0) (get_or xs 1 0) (get_or xs 2 0) (get_or xs 3 0) → xs ≡ word_bytes n ++ take (length xs - 4) (drop 4 xs)
-front_word [] n l a b c d e = absurd (omega arith)
-front_word (w ∷ []) n l a b c d e = absurd (omega arith)
-front_word (w ∷ x ∷ []) n l a b c d e = absurd (omega arith)
-front_word (w ∷ x ∷ y ∷ []) n l a b c d e = absurd (omega arith)
-front_word (w ∷ x ∷ y ∷ z ∷ rest) n l a b c d e =
-    let whole : take (length (w ∷ x ∷ y ∷ z ∷ rest) - 4) rest ≡ rest = take_all _ rest (omega arith) in
-    rw (e, whole) (ap (λ t. t ++ rest) (sym (four_bytes w x y z a b c d)))
-
--- a word is the number that its bytes stand for
-pub word_number : (n : ℕ) → n < 2 ^ 32 → number (n / 16777216 % 256) (n / 65536 % 256) (n / 256 % 256) (n % 256) ≡ n
-word_number n l =
-    let high : n / 16777216 % 256 ≡ n / 16777216 = omega arith in
-    let third : n / 65536 % 256 ≡ n / 65536 - n / 16777216 * 256 = omega (arith, shr-shr n 16 8) in
-    let second : n / 256 % 256 ≡ n / 256 - n / 65536 * 256 = omega (arith, shr-shr n 8 8) in
-    rw (high, third, second) (omega arith)
-
--- five words, one read after another, and nothing behind them
-pub five : (xs p q r s t : List ℕ) (time a b c d : ℕ) → xs ≡ word_bytes time ++ p → p ≡ word_bytes a ++ q → q ≡ word_bytes b ++ r → r ≡ word_bytes c ++ s → s ≡ word_bytes d ++ t → length t ≡ 0 → xs ≡ words time a b c d
-five xs p q r s t time a b c d e f g h i j = let k : t ≡ [] = nil_from_length t j in rw (e, f, g, h, i, k) refl
-
--- the number at a place of a list of bytes
-abbrev pub word_at : List ℕ → ℕ → ℕ
-word_at xs i = number (get_or xs i 0) (get_or xs (i + 1) 0) (get_or xs (i + 2) 0) (get_or xs (i + 3) 0)
+pub front_word : (xs front rest : List ℕ) (n : ℕ) → 4 ≤ length xs → front ≡ take 4 xs → rest ≡ drop 4 xs → get_or xs 0 0 < 256 → get_or xs 1 0 < 256 → get_or xs 2 0 < 256 → get_or xs 3 0 < 256 → n ≡ number (get_or front 0 0) (get_or front 1 0) (get_or front 2 0) (get_or front 3 0) → xs ≡ word_bytes n ++ rest
+front_word [] front rest n l f r a b c d e = absurd (omega arith)
+front_word (w ∷ []) front rest n l f r a b c d e = absurd (omega arith)
+front_word (w ∷ x ∷ []) front rest n l f r a b c d e = absurd (omega arith)
+front_word (w ∷ x ∷ y ∷ []) front rest n l f r a b c d e = absurd (omega arith)
+front_word (w ∷ x ∷ y ∷ z ∷ tail) front rest n l f r a b c d e = rw (e, f, r) (ap (λ t. t ++ tail) (sym (four_bytes w x y z a b c d)))

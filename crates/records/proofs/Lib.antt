@@ -1,6 +1,3 @@
 pub mod Bytes
-pub mod Format
 pub mod Fronts
 pub mod Trips
-pub mod EventForms
-pub mod TapeForms

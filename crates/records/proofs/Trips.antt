@@ -4,24 +4,22 @@ use Rattle.std.proofs.lemmas.List.{take-take}
 use Rattle.records.specs.declared.Malformed.{Malformed}
 use Rattle.records.specs.declared.Malformed.TheVariants.{Length, Byte}
 use Rattle.records.specs.Reading.{Begins, Reads, WritesBack, Answered, Written}
-use Rattle.records.proofs.Format.{Format}
+use Rattle.records.specs.Forms.{Slot}
+use Rattle.records.specs.Formats.{LawfulFormat}
 
-module _ {E : Type 0} (format : Format E) where
-  same_value : (e f : E) → format.Fits e → format.Fits f → format.bytes_of e ≡ format.bytes_of f → e ≡ f
-  same_value e f l m h = sym (format.inverse e l) ∙ ap format.value_of h ∙ format.inverse f m
-
-  read_back : (e : E) (xs : List ℕ) (r : Result E Malformed) → format.Fits e → xs ≡ format.bytes_of e → Reads format.bytes_of format.Fits xs r → r ≡ Ok e
-  read_back e xs (Ok f) l h (m, g) = ap Ok (same_value f e m l (sym g ∙ h))
+module _ {E : Type 0} {bytes_of : E → List ℕ} {Fits : E → Type 0} {form_of : ℕ → List Slot} (format : LawfulFormat bytes_of Fits form_of) where
+  read_back : (e : E) (xs : List ℕ) (r : Result E Malformed) → Fits e → xs ≡ bytes_of e → Reads bytes_of Fits xs r → r ≡ Ok e
+  read_back e xs (Ok f) l h (m, g) = ap Ok (format.one_value f e m l (sym g ∙ h))
   read_back e xs (Err (Length n)) l h (g, ne) = absurd (ne (g ∙ ap length h ∙ format.length_of e))
   read_back e xs (Err (Byte i)) l h (g, b, ne) = absurd (ne (e, l, ap (take (i + 1)) (sym h)))
 
-  pub written : (e : E) (xs : List ℕ) → xs ≡ format.bytes_of e → format.Fits e → Written format.bytes_of format.Fits e xs
+  pub written : (e : E) (xs : List ℕ) → xs ≡ bytes_of e → Fits e → Written bytes_of Fits e xs
   written e xs h l = record { bytes = h; fits = l; reads_back = λ r. read_back e xs r l h }
 
-  begins_less : (xs : List ℕ) (m n : ℕ) → m ≤ n → Begins format.bytes_of format.Fits n xs → Begins format.bytes_of format.Fits m xs
-  begins_less xs m n le (e, l, h) = (e, l, sym (take-take m n (format.bytes_of e) le) ∙ ap (take m) h ∙ take-take m n xs le)
+  begins_less : (xs : List ℕ) (m n : ℕ) → m ≤ n → Begins bytes_of Fits n xs → Begins bytes_of Fits m xs
+  begins_less xs m n le (e, l, h) = (e, l, sym (take-take m n (bytes_of e) le) ∙ ap (take m) h ∙ take-take m n xs le)
 
-  one_answer : (xs : List ℕ) (r : Result E Malformed) → Reads format.bytes_of format.Fits xs r → (s : Result E Malformed) → Reads format.bytes_of format.Fits xs s → s ≡ r
+  one_answer : (xs : List ℕ) (r : Result E Malformed) → Reads bytes_of Fits xs r → (s : Result E Malformed) → Reads bytes_of Fits xs s → s ≡ r
   one_answer xs (Ok e) (l, h) s b = read_back e xs s l h b
   one_answer xs (Err (Length m)) a (Ok f) (l, h) = sym (read_back f xs (Err (Length m)) l h a)
   one_answer xs (Err (Byte i)) a (Ok f) (l, h) = sym (read_back f xs (Err (Byte i)) l h a)
@@ -34,9 +32,9 @@ module _ {E : Type 0} (format : Format E) where
       let same : j ≡ i = omega arith in
       ap (λ k. Err (Byte k)) same
 
-  writes_back : (xs : List ℕ) (r : Result E Malformed) → Reads format.bytes_of format.Fits xs r → WritesBack format.bytes_of xs r
+  writes_back : (xs : List ℕ) (r : Result E Malformed) → Reads bytes_of Fits xs r → WritesBack bytes_of xs r
   writes_back xs (Ok e) (l, h) = sym h
   writes_back xs (Err m) h = tt
 
-  pub answered : (xs : List ℕ) (r : Result E Malformed) → Reads format.bytes_of format.Fits xs r → Answered format.bytes_of format.Fits xs r
+  pub answered : (xs : List ℕ) (r : Result E Malformed) → Reads bytes_of Fits xs r → Answered bytes_of Fits xs r
   answered xs r h = record { answer = h; only = one_answer xs r h; writes_back = writes_back xs r h }

@@ -33,9 +33,9 @@ row kind side dealer time a b c d = ascii kind ∷ side ∷ dealer ∷ 0 ∷ wor
 
 -- an event's record
 abbrev pub event_bytes : Event → List ℕ
-event_bytes (Event.Make dealers least_quantity previous_average day_kind rule) = row "M" no_side dealers 0 least_quantity previous_average day_kind rule
+event_bytes (Event.Make config rule) = row "M" no_side config.dealers 0 config.least_quantity config.previous_average config.day_kind rule
 event_bytes (Event.Clock time) = row "N" no_side 0 time 0 0 0 0
-event_bytes (Event.Quote dealer bid bid_quantity ask ask_quantity) = row "Q" no_side dealer 0 bid bid_quantity ask ask_quantity
+event_bytes (Event.Quote dealer pair) = row "Q" no_side dealer 0 pair.bid pair.bid_quantity pair.ask pair.ask_quantity
 event_bytes (Event.Withdraw dealer) = row "W" no_side dealer 0 0 0 0 0
 event_bytes Event.Bell = row "B" no_side 0 0 0 0 0 0
 event_bytes (Event.Order side price quantity) = row "O" (letter side) 0 0 price quantity 0 0
@@ -45,7 +45,7 @@ event_bytes Event.Close = row "E" no_side 0 0 0 0 0 0
 
 -- a tape record's bytes
 abbrev pub tape_bytes : TapeRecord → List ℕ
-tape_bytes (TapeRecord.Quote time dealer bid bid_quantity ask ask_quantity) = row "Q" no_side dealer time bid bid_quantity ask ask_quantity
+tape_bytes (TapeRecord.Quote time dealer pair) = row "Q" no_side dealer time pair.bid pair.bid_quantity pair.ask pair.ask_quantity
 tape_bytes (TapeRecord.Withdrawal time dealer) = row "W" no_side dealer time 0 0 0 0
 tape_bytes (TapeRecord.Order time side price quantity) = row "O" (letter side) 0 time price quantity 0 0
 tape_bytes (TapeRecord.Cancellation time side number quantity) = row "C" (letter side) 0 time number quantity 0 0
@@ -63,9 +63,9 @@ IsByte n = n < 2 ^ 8
 
 -- the numbers of an event fit their places
 abbrev pub EventFits : Event → Type 0
-EventFits (Event.Make dealers least_quantity previous_average day_kind rule) = IsByte dealers × IsWord least_quantity × IsWord previous_average × IsWord day_kind × IsWord rule
+EventFits (Event.Make config rule) = IsByte config.dealers × IsWord config.least_quantity × IsWord config.previous_average × IsWord config.day_kind × IsWord rule
 EventFits (Event.Clock time) = IsWord time
-EventFits (Event.Quote dealer bid bid_quantity ask ask_quantity) = IsByte dealer × IsWord bid × IsWord bid_quantity × IsWord ask × IsWord ask_quantity
+EventFits (Event.Quote dealer pair) = IsByte dealer × IsWord pair.bid × IsWord pair.bid_quantity × IsWord pair.ask × IsWord pair.ask_quantity
 EventFits (Event.Withdraw dealer) = IsByte dealer
 EventFits Event.Bell = Unit {0}
 EventFits (Event.Order side price quantity) = IsWord price × IsWord quantity
@@ -75,7 +75,7 @@ EventFits Event.Close = Unit {0}
 
 -- the numbers of a tape record fit their places
 abbrev pub TapeFits : TapeRecord → Type 0
-TapeFits (TapeRecord.Quote time dealer bid bid_quantity ask ask_quantity) = IsWord time × IsByte dealer × IsWord bid × IsWord bid_quantity × IsWord ask × IsWord ask_quantity
+TapeFits (TapeRecord.Quote time dealer pair) = IsWord time × IsByte dealer × IsWord pair.bid × IsWord pair.bid_quantity × IsWord pair.ask × IsWord pair.ask_quantity
 TapeFits (TapeRecord.Withdrawal time dealer) = IsWord time × IsByte dealer
 TapeFits (TapeRecord.Order time side price quantity) = IsWord time × IsWord price × IsWord quantity
 TapeFits (TapeRecord.Cancellation time side number quantity) = IsWord time × IsWord number × IsWord quantity

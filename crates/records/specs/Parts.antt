@@ -1,5 +1,6 @@
 -- The parts that a record is read into, and the bytes that they came from. Assumes nothing.
 use Rattle.std.specs.Prelude.{◌≡◌, ℕ, List, ◌∷◌, Some, None, Option, ◌≢◌, slice_index}
+use Rattle.market.specs.declared.Pair.{Pair}
 use Rattle.records.specs.declared.parts.Head.{Head}
 use Rattle.records.specs.Layout.{words, IsWord}
 use Rattle.records.specs.Forms.{Slot, all_settled}
@@ -11,6 +12,10 @@ words_of w = words (slice_index w 0) (slice_index w 1) (slice_index w 2) (slice_
 -- each of the five fits a word
 abbrev pub words_fit : List ℕ → Type 0
 words_fit w = IsWord (slice_index w 0) × IsWord (slice_index w 1) × IsWord (slice_index w 2) × IsWord (slice_index w 3) × IsWord (slice_index w 4)
+
+-- the pair in the fields A to D
+abbrev pub pair_in : List ℕ → Pair
+pair_in w = record { bid = slice_index w 1; bid_quantity = slice_index w 2; ask = slice_index w 3; ask_quantity = slice_index w 4 }
 
 -- the whole record
 abbrev pub parts_of : Head → List ℕ → List ℕ

@@ -1,12 +1,13 @@
 // The 24-byte records of event files and tapes, read and written.
 #![tactic(auto)]
 
+mod codec;
 mod events;
 mod parts;
 mod tape;
 
-pub use events::{read_event, write_event};
-pub use tape::{read_tape, write_tape};
+pub use codec::{Record, read, write};
+pub use parts::{Head, Words};
 
 pub const RECORD_LENGTH: usize = 24;
 

@@ -1,178 +1,135 @@
 // Tape records.
 ghost use Rattle.std.specs.Prelude.{◌≡◌};
-ghost use Rattle.records.specs.Layout.{tape_bytes, TapeFits};
-ghost use Rattle.records.specs.Reading.{Answered, Written};
-ghost use Rattle.records.specs.Parts.{Outlined};
-ghost use Rattle.records.specs.Forms.{tape_form};
+ghost use Rattle.records.specs.Layout.{ascii, tape_bytes, TapeFits};
+ghost use Rattle.records.specs.Parts.{parts_of};
+ghost use Rattle.records.specs.Forms.{tape_form, all_settled};
+ghost use Rattle.records.specs.TapeFormat.{tape_format};
+ghost use Rattle.std.proofs.Common.{arith, rules};
+ghost use Rattle.std.proofs.lemmas.Nat.{shr-shr};
 
-use crate::parts::{
-    Head, NO_SIDE, Words, first_difference, five_words, laid_out, nearest_side, side_letter,
-};
-use crate::{Malformed, RECORD_LENGTH};
+use crate::RECORD_LENGTH;
+use crate::codec::Record;
+use crate::parts::{Head, Words, nearest_side, of_side, pair_of, pair_words, plain};
 use market::{TapeRecord, Trade};
 
-// The bytes of a tape record, kind by kind.
-fn tape_record(told: &TapeRecord) -> [u8; RECORD_LENGTH]
-    ensures bytes { result ≡ tape_bytes told.now }
-    ensures fits { TapeFits told.now }
+// The click of a record's parts.
+fn click_of(head: Head, words: Words) -> TapeRecord
+    ensures { tape_bytes result ≡ all_settled (tape_form (ascii "K")) (parts_of head words) }
 {
-    match *told {
-        TapeRecord::Quote {
-            time,
-            dealer,
-            bid,
-            bid_quantity,
-            ask,
-            ask_quantity,
-        } => laid_out(
-            b'Q',
-            NO_SIDE,
-            dealer,
-            [time, bid, bid_quantity, ask, ask_quantity],
-        ),
-        TapeRecord::Withdrawal { time, dealer } => laid_out(
-            b'W',
-            NO_SIDE,
-            dealer,
-            [time, 0, 0, 0, 0],
-        ),
-        TapeRecord::Order {
-            time,
-            side,
-            price,
-            quantity,
-        } => laid_out(b'O', side_letter(side), 0, [time, price, quantity, 0, 0]),
-        TapeRecord::Cancellation {
-            time,
-            side,
-            number,
-            quantity,
-        } => laid_out(b'C', side_letter(side), 0, [time, number, quantity, 0, 0]),
-        TapeRecord::Click {
-            time,
-            dealer,
-            side,
-            number,
-            price,
-            taken,
-            entered,
-        } => laid_out(
-            b'K',
-            side_letter(side),
-            dealer,
-            [time, number, price, taken, entered],
-        ),
-        TapeRecord::Trade(t) => laid_out(
-            b'T',
-            side_letter(t.side),
-            t.dealer,
-            [t.time, t.number, t.price, t.quantity, t.arrival],
-        ),
-        TapeRecord::Late {
-            time,
-            dealer,
-            missed,
-        } => laid_out(b'L', NO_SIDE, dealer, [time, missed, 0, 0, 0]),
-        TapeRecord::Halt { time, direction } => laid_out(
-            b'H',
-            NO_SIDE,
-            0,
-            [time, direction, 0, 0, 0],
-        ),
+    let [time, a, b, c, d] = words;
+    TapeRecord::Click {
+        time,
+        dealer: head.dealer,
+        side: nearest_side(head.side),
+        number: a,
+        price: b,
+        taken: c,
+        entered: d,
     }
 }
 
-// The bytes of a tape record. They read back as that record.
-pub fn write_tape(told: &TapeRecord) -> [u8; RECORD_LENGTH]
-    ensures { Written tape_bytes TapeFits told.now result }
+// The trade of a record's parts.
+fn trade_of(head: Head, words: Words) -> Trade
+    ensures { tape_bytes (TapeRecord.Trade result) ≡ all_settled (tape_form (ascii "T")) (parts_of head words) }
 {
-    tape_record(told)
-}
-
-// The tape record of a kind, with the fields that the kind names as the bytes have them. The others are not looked at.
-fn outlined_tape(head: Head, words: Words) -> Option<TapeRecord>
-    ensures { Outlined tape_bytes tape_form head words result }
-{
-    let Head {
-        kind,
-        side,
-        dealer,
-        zero: _,
-    } = head;
     let [time, a, b, c, d] = words;
-    let told = match kind as char {
-        'Q' => TapeRecord::Quote {
-            time,
-            dealer,
-            bid: a,
-            bid_quantity: b,
-            ask: c,
-            ask_quantity: d,
-        },
-        'W' => TapeRecord::Withdrawal { time, dealer },
-        'O' => TapeRecord::Order {
-            time,
-            side: nearest_side(side),
-            price: a,
-            quantity: b,
-        },
-        'C' => TapeRecord::Cancellation {
-            time,
-            side: nearest_side(side),
-            number: a,
-            quantity: b,
-        },
-        'K' => TapeRecord::Click {
-            time,
-            dealer,
-            side: nearest_side(side),
-            number: a,
-            price: b,
-            taken: c,
-            entered: d,
-        },
-        'T' => TapeRecord::Trade(Trade {
-            time,
-            side: nearest_side(side),
-            dealer,
-            number: a,
-            price: b,
-            quantity: c,
-            arrival: d,
-        }),
-        'L' => TapeRecord::Late {
-            time,
-            dealer,
-            missed: a,
-        },
-        'H' => TapeRecord::Halt { time, direction: a },
-        _ => return None,
-    };
-    Some(told)
+    Trade {
+        time,
+        side: nearest_side(head.side),
+        dealer: head.dealer,
+        number: a,
+        price: b,
+        quantity: c,
+        arrival: d,
+    }
 }
 
-// The tape record of some bytes, or why there is none. What is accepted writes back to its own bytes.
-pub fn read_tape(bytes: &[u8]) -> Result<TapeRecord, Malformed>
-    ensures { Answered tape_bytes TapeFits bytes.now result }
-{
-    let wrong_length = Malformed::Length { found: bytes.len() };
-    let [kind, side, dealer, zero, rest @ ..] = bytes else {
-        return Err(wrong_length);
-    };
-    let Some(words) = five_words(rest) else {
-        return Err(wrong_length);
-    };
-    let head = Head {
-        kind: *kind,
-        side: *side,
-        dealer: *dealer,
-        zero: *zero,
-    };
-    let Some(told) = outlined_tape(head, words) else {
-        return Err(Malformed::Byte { place: 0 });
-    };
-    match first_difference(&write_tape(&told), bytes) {
-        Some(place) => Err(Malformed::Byte { place }),
-        None => Ok(told),
+impl Record for TapeRecord {
+    ghost bytes_of = { tape_bytes };
+
+    ghost fits = { TapeFits };
+
+    ghost form_of = { tape_form };
+
+    ghost lawful = { tape_format (λ n l. Prim.omega (arith, shr-shr n 16 8, shr-shr n 8 8)) (Prim.search rules) };
+
+    fn to_bytes(&self) -> [u8; RECORD_LENGTH] {
+        match *self {
+            TapeRecord::Quote { time, dealer, pair } => plain(b'Q', dealer, pair_words(time, pair)),
+            TapeRecord::Withdrawal { time, dealer } => plain(b'W', dealer, [time, 0, 0, 0, 0]),
+            TapeRecord::Order {
+                time,
+                side,
+                price,
+                quantity,
+            } => of_side(b'O', side, 0, [time, price, quantity, 0, 0]),
+            TapeRecord::Cancellation {
+                time,
+                side,
+                number,
+                quantity,
+            } => of_side(b'C', side, 0, [time, number, quantity, 0, 0]),
+            TapeRecord::Click {
+                time,
+                dealer,
+                side,
+                number,
+                price,
+                taken,
+                entered,
+            } => of_side(b'K', side, dealer, [time, number, price, taken, entered]),
+            TapeRecord::Trade(t) => of_side(
+                b'T',
+                t.side,
+                t.dealer,
+                [t.time, t.number, t.price, t.quantity, t.arrival],
+            ),
+            TapeRecord::Late {
+                time,
+                dealer,
+                missed,
+            } => plain(b'L', dealer, [time, missed, 0, 0, 0]),
+            TapeRecord::Halt { time, direction } => plain(b'H', 0, [time, direction, 0, 0, 0]),
+        }
+    }
+
+    fn from_parts(head: Head, words: Words) -> Option<TapeRecord> {
+        let Head {
+            kind,
+            side,
+            dealer,
+            zero: _,
+        } = head;
+        let [time, a, b, c, d] = words;
+        let side = nearest_side(side);
+        Some(match kind as char {
+            'Q' => TapeRecord::Quote {
+                time,
+                dealer,
+                pair: pair_of(words),
+            },
+            'W' => TapeRecord::Withdrawal { time, dealer },
+            'O' => TapeRecord::Order {
+                time,
+                side,
+                price: a,
+                quantity: b,
+            },
+            'C' => TapeRecord::Cancellation {
+                time,
+                side,
+                number: a,
+                quantity: b,
+            },
+            'K' => click_of(head, words),
+            'T' => TapeRecord::Trade(trade_of(head, words)),
+            'L' => TapeRecord::Late {
+                time,
+                dealer,
+                missed: a,
+            },
+            'H' => TapeRecord::Halt { time, direction: a },
+            _ => return None,
+        })
     }
 }

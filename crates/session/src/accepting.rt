@@ -46,10 +46,7 @@ impl Ledger {
         memory.tape[self.counts.tape] = TapeRecord::Quote {
             time: self.clock,
             dealer,
-            bid: pair.bid,
-            bid_quantity: pair.bid_quantity,
-            ask: pair.ask,
-            ask_quantity: pair.ask_quantity,
+            pair,
         };
         self.counts.tape += 1;
     }

@@ -1,7 +1,0 @@
-use Rattle.std.proofs.Common.{◌≡◌, vec_items}
-use Rattle.std.specs.Slice.Iter.{chunks_rest, chunks_size}
-use Rattle.console.proofs.Lines.{Begun}
-use Rattle.console.proofs.listing.fill.Given as goal
-
-abbrev pub invariant-loop-piece : goal.invariant-loop-piece
-invariant-loop-piece l = (chunks_size l.piece-iterator ≡ 24) × Begun l.file (vec_items l.lines) (chunks_rest l.piece-iterator)
