@@ -22,9 +22,6 @@ use Rattle.day.specs.declared.stages.Stage.{Stage}
 use Rattle.day.specs.declared.stages.Stage.TheVariants.{Unmade, Running, Ended}
 use Rattle.day.specs.declared.stages.Day.{Day}
 use Rattle.day.specs.declared.faults.Fault.{Fault}
-use Rattle.day.specs.declared.faults.Misread.{Misread}
-use Rattle.day.specs.declared.faults.Misplaced.{Misplaced}
-use Rattle.day.specs.declared.faults.Refused.{Refused}
 use Rattle.day.specs.Running.{Stepped, summary_of_closed}
 
 -- the meaning of a rule
@@ -119,20 +116,10 @@ pub record Taken (bytes : List ℕ) (d d' : Day) (m m' : Memory) (r : Result Ans
 
 -- ---- the layers, each by itself
 
--- what the reader says, with the place
-abbrev pub ReadAt : (place : ℕ) → List ℕ → Result Event Misread → Type 0
-ReadAt place xs (Ok e) = Reads event_bytes EventFits xs (Ok e)
-ReadAt place xs (Err w) = (w.place ≡ place) × Reads event_bytes EventFits xs (Err w.malformed)
-
--- the day's error as a fault
-abbrev pub by_day : {A : Type 0} → Result A Misplaced → Result A Fault
-by_day (Ok x) = Ok x
-by_day (Err e) = Err (Fault.Day e.place e.refusal)
-
--- what the session's making says, with the place
-abbrev pub MadeAt : (place : ℕ) → Config → Memory → Memory → Result PreOpen Refused → Type 0
-MadeAt place c m m' (Ok p) = Made c m m' (Ok p)
-MadeAt place c m m' (Err e) = (e.place ≡ place) × Made c m m' (Err e.refusal)
+-- the event of a record, or the reader's fault at its place
+abbrev pub read_as : (place : ℕ) → Result Event Malformed → Result Event Fault
+read_as place (Ok e) = Ok e
+read_as place (Err w) = Err (Fault.Reader place w)
 
 -- what holds of what a reader says of the bytes
 abbrev pub Reading : List ℕ → (Result Event Malformed → Type 0) → Type 0

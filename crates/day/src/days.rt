@@ -1,9 +1,9 @@
 // A day: records in, answers and faults out.
 ghost use Rattle.std.specs.Prelude.{◌≡◌};
-ghost use Rattle.day.specs.Course.{precedence_of, ruling_of, making_of, BeginsBy, told, GoesOnBy, past_end, TakenBy, Taken, ReadAt, by_day, MadeAt, Reading, summary_at};
+ghost use Rattle.day.specs.Course.{precedence_of, ruling_of, making_of, BeginsBy, told, GoesOnBy, past_end, TakenBy, Taken, read_as, Reading, summary_at};
 ghost use Rattle.day.specs.Running.{Stepped};
 
-use crate::faults::{Fault, Misplaced, Misread, Refused};
+use crate::faults::Fault;
 use crate::running::{Outcome, Session};
 use crate::stages::{Day, Ruling, Stage};
 use book::memory::Memory;
@@ -13,24 +13,21 @@ use records::read_event;
 use session::states::PreOpen;
 use std::mem;
 
-// The event of a record.
-fn read_at(place: u32, bytes: &[u8]) -> Result<Event, Misread>
-    ensures { ReadAt place bytes.now result }
+// The event of a record, or the reader's fault.
+fn read_at(place: u32, bytes: &[u8]) -> Result<Event, Fault>
+    ensures { Reading bytes.now (λ a. result ≡ read_as place a) }
 {
-    match read_event(bytes) {
-        Ok(event) => Ok(event),
-        Err(malformed) => Err(Misread { place, malformed }),
-    }
+    read_event(bytes).map_err(|malformed| Fault::Reader { place, malformed })
 }
 
 // The rule of a number.
-fn ruling_at(place: u32, number: u32) -> Result<Ruling, Misplaced>
-    ensures { by_day result ≡ ruling_of place number }
+fn ruling_at(place: u32, number: u32) -> Result<Ruling, Fault>
+    ensures { result ≡ ruling_of place number }
 {
     match number {
         1 => Ok(Ruling::Time),
         2 => Ok(Ruling::Size),
-        _ => Err(Misplaced {
+        _ => Err(Fault::Day {
             place,
             refusal: Refusal::BadConfig,
         }),
@@ -38,8 +35,8 @@ fn ruling_at(place: u32, number: u32) -> Result<Ruling, Misplaced>
 }
 
 // The rule and the numbers of a making. Another event is out of turn.
-fn making_at(place: u32, event: &Event) -> Result<(Ruling, Config), Misplaced>
-    ensures { by_day result ≡ making_of place event.now }
+fn making_at(place: u32, event: &Event) -> Result<(Ruling, Config), Fault>
+    ensures { result ≡ making_of place event.now }
 {
     let Event::Make {
         dealers,
@@ -49,7 +46,7 @@ fn making_at(place: u32, event: &Event) -> Result<(Ruling, Config), Misplaced>
         rule,
     } = *event
     else {
-        return Err(Misplaced {
+        return Err(Fault::Day {
             place,
             refusal: Refusal::OutOfTurn,
         });
@@ -63,38 +60,24 @@ fn making_at(place: u32, event: &Event) -> Result<(Ruling, Config), Misplaced>
     Ok((ruling_at(place, rule)?, config))
 }
 
-// A session made from these numbers.
-fn made_at(place: u32, config: Config, memory: &mut Memory) -> Result<PreOpen, Refused>
-    ensures { MadeAt place config memory.old memory.new result }
-{
-    match PreOpen::new(config, memory) {
-        Ok(session) => Ok(session),
-        Err(refusal) => Err(Refused { place, refusal }),
-    }
-}
-
 // Makes a session from the first record, which has to be a making.
 fn begin(place: u32, memory: &mut Memory, bytes: &[u8]) -> Result<(Ruling, PreOpen), Fault>
     ensures { Reading bytes.now (λ a. BeginsBy place a memory.old memory.new result) }
 {
     let event = read_at(place, bytes)?;
     let (rule, config) = making_at(place, &event)?;
-    let session = made_at(place, config, memory)?;
-    Ok((rule, session))
+    let made = PreOpen::new(config, memory).map_err(|refusal| Fault::Session { place, refusal })?;
+    Ok((rule, made))
 }
 
 // What came of an event, with the layer and the place of a refusal.
 fn answer_at(place: u32, outcome: Outcome) -> Result<Answer, Fault>
     ensures { result ≡ told place outcome }
 {
-    match outcome {
-        Ok(answer) => Ok(answer),
-        Err(Refusal::OutOfTurn) => Err(Fault::from(Misplaced {
-            place,
-            refusal: Refusal::OutOfTurn,
-        })),
-        Err(refusal) => Err(Fault::from(Refused { place, refusal })),
-    }
+    outcome.map_err(|refusal| match refusal {
+        Refusal::OutOfTurn => Fault::Day { place, refusal },
+        _ => Fault::Session { place, refusal },
+    })
 }
 
 // An event under a rule.
@@ -127,7 +110,7 @@ fn go_on(
             let (session, outcome) = take_under(rule, session, memory, &event);
             (session, answer_at(place, outcome))
         }
-        Err(misread) => (session, Err(Fault::from(misread))),
+        Err(fault) => (session, Err(fault)),
     }
 }
 
@@ -135,11 +118,11 @@ fn go_on(
 fn refuse_at(place: u32, bytes: &[u8]) -> Result<Answer, Fault>
     ensures { Reading bytes.now (λ a. result ≡ past_end place a) }
 {
-    let _event = read_at(place, bytes)?;
-    Err(Fault::from(Misplaced {
+    read_at(place, bytes)?;
+    Err(Fault::Day {
         place,
         refusal: Refusal::OutOfTurn,
-    }))
+    })
 }
 
 // The stage after a record, and the answer to it.
@@ -153,8 +136,7 @@ fn after(
 {
     match stage {
         Stage::Unmade => match begin(place, memory, bytes) {
-            Ok(begun) => {
-                let (rule, session) = begun;
+            Ok((rule, session)) => {
                 let session = Session::Early(session);
                 (Stage::Running { rule, session }, Ok(Answer::Made))
             }
@@ -188,7 +170,7 @@ impl Day {
         let (next, answer) = after(was, self.place, memory, bytes);
         match mem::replace(&mut self.stage, next) {
             Stage::Ended => answer,
-            _ => unreachable(),
+            _ => unreachable!(),
         }
     }
 
