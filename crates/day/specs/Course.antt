@@ -6,7 +6,7 @@ use Rattle.market.specs.declared.Answer.{Answer}
 use Rattle.market.specs.declared.Refusal.{Refusal}
 use Rattle.market.specs.declared.Summary.{Summary}
 use Rattle.market.specs.Outcomes.{refusal_number}
-use Rattle.market.specs.Precedence.{Precedence, time_quotes, time_orders, size_quotes, size_orders}
+use Rattle.market.specs.Precedence.{Precedence}
 use Rattle.records.specs.declared.Malformed.{Malformed}
 use Rattle.records.specs.Layout.{event_bytes, EventFits}
 use Rattle.records.specs.Reading.{Reads}
@@ -16,18 +16,18 @@ use Rattle.session.specs.declared.states.PreOpen.{PreOpen}
 use Rattle.session.specs.View.{SameMemory, Made}
 use Rattle.day.specs.declared.running.Session.{Session}
 use Rattle.day.specs.declared.running.Session.TheVariants.{Early}
-use Rattle.day.specs.declared.stages.Ruling.{Ruling}
-use Rattle.day.specs.declared.stages.Ruling.TheVariants.{Time, Size}
+use Rattle.day.specs.declared.rulings.Ruling.{Ruling}
+use Rattle.day.specs.declared.rulings.Ruling.TheVariants.{Time, Size}
 use Rattle.day.specs.declared.stages.Stage.{Stage}
 use Rattle.day.specs.declared.stages.Stage.TheVariants.{Unmade, Running, Ended}
 use Rattle.day.specs.declared.stages.Day.{Day}
 use Rattle.day.specs.declared.faults.Fault.{Fault}
+use Rattle.day.specs.Rulings.{quotes_of, orders_of}
 use Rattle.day.specs.Running.{Stepped, summary_of_closed}
 
 -- the meaning of a rule
 abbrev pub precedence_of : Ruling → Precedence
-precedence_of Time = rule_of time_quotes time_orders
-precedence_of Size = rule_of size_quotes size_orders
+precedence_of rule = rule_of (quotes_of rule) (orders_of rule)
 
 -- the place of the next record, which stays at the largest number of a word
 abbrev pub next_place : ℕ → ℕ

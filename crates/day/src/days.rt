@@ -1,14 +1,13 @@
 // A day: records in, answers and faults out.
 ghost use Rattle.std.specs.Prelude.{◌≡◌};
-ghost use Rattle.day.specs.Course.{precedence_of, ruling_of, making_of, BeginsBy, told, GoesOnBy, past_end, TakenBy, Taken, read_as, Reading, summary_at};
-ghost use Rattle.day.specs.Running.{Stepped};
+ghost use Rattle.day.specs.Course.{precedence_of, making_of, BeginsBy, told, GoesOnBy, past_end, TakenBy, Taken, read_as, Reading, summary_at};
 
 use crate::faults::Fault;
+use crate::rulings::Ruling;
 use crate::running::{Outcome, Session};
-use crate::stages::{Day, Ruling, Stage};
+use crate::stages::{Day, Stage};
 use book::memory::Memory;
 use market::{Answer, Config, Event, Refusal, Summary};
-use precedence::rules::{Size, Time};
 use records::read_event;
 use session::states::PreOpen;
 use std::mem;
@@ -18,20 +17,6 @@ fn read_at(place: u32, bytes: &[u8]) -> Result<Event, Fault>
     ensures { Reading bytes.now (λ a. result ≡ read_as place a) }
 {
     read_event(bytes).map_err(|malformed| Fault::Reader { place, malformed })
-}
-
-// The rule of a number.
-fn ruling_at(place: u32, number: u32) -> Result<Ruling, Fault>
-    ensures { result ≡ ruling_of place number }
-{
-    match number {
-        1 => Ok(Ruling::Time),
-        2 => Ok(Ruling::Size),
-        _ => Err(Fault::Day {
-            place,
-            refusal: Refusal::BadConfig,
-        }),
-    }
 }
 
 // The rule and the numbers of a making. Another event is out of turn.
@@ -51,13 +36,17 @@ fn making_at(place: u32, event: &Event) -> Result<(Ruling, Config), Fault>
             refusal: Refusal::OutOfTurn,
         });
     };
+    let rule = Ruling::try_from(rule).map_err(|_| Fault::Day {
+        place,
+        refusal: Refusal::BadConfig,
+    })?;
     let config = Config {
         dealers,
         least_quantity,
         previous_average,
         day_kind,
     };
-    Ok((ruling_at(place, rule)?, config))
+    Ok((rule, config))
 }
 
 // Makes a session from the first record, which has to be a making.
@@ -80,21 +69,6 @@ fn answer_at(place: u32, outcome: Outcome) -> Result<Answer, Fault>
     })
 }
 
-// An event under a rule.
-fn take_under(
-    rule: Ruling,
-    session: Session,
-    memory: &mut Memory,
-    event: &Event,
-) -> (Session, Outcome)
-    ensures { Stepped (precedence_of rule) event.now session result.0 memory.old memory.new result.1 }
-{
-    match rule {
-        Ruling::Time => session.take(&Time, memory, event),
-        Ruling::Size => session.take(&Size, memory, event),
-    }
-}
-
 // A record for a running session.
 fn go_on(
     place: u32,
@@ -107,7 +81,7 @@ fn go_on(
 {
     match read_at(place, bytes) {
         Ok(event) => {
-            let (session, outcome) = take_under(rule, session, memory, &event);
+            let (session, outcome) = session.take(&rule, memory, &event);
             (session, answer_at(place, outcome))
         }
         Err(fault) => (session, Err(fault)),
