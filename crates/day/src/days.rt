@@ -154,9 +154,8 @@ impl Day {
     {
         let Day { place: _, stage } = self;
         match stage {
-            Stage::Unmade => None,
             Stage::Running { rule: _, session } => session.end(),
-            Stage::Ended => None,
+            Stage::Unmade | Stage::Ended => None,
         }
     }
 }

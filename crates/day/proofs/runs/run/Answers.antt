@@ -1,4 +1,4 @@
-use Rattle.std.proofs.Common.{rules, Ok, vec_items, ◌≡◌}
+use Rattle.std.proofs.Common.{rules, Ok}
 use Rattle.market.specs.Precedence.{LawfulRule}
 use Rattle.book.specs.View.{rule_of}
 use Rattle.session.specs.View.{Made}
