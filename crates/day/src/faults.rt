@@ -22,8 +22,7 @@ impl Fault {
     {
         match self {
             Fault::Reader { .. } => 17,
-            Fault::Day { refusal, .. } => refusal.number(),
-            Fault::Session { refusal, .. } => refusal.number(),
+            Fault::Day { refusal, .. } | Fault::Session { refusal, .. } => refusal.number(),
         }
     }
 }
@@ -37,14 +36,8 @@ impl fmt::Display for Fault {
                 malformed: Malformed::Length { found: at } | Malformed::Byte { place: at },
                 ..
             } => write!(f, "17 reader {at}"),
-            Fault::Day { refusal, .. } => {
-                let number = refusal.number();
-                write!(f, "{number} day")
-            }
-            Fault::Session { refusal, .. } => {
-                let number = refusal.number();
-                write!(f, "{number} session")
-            }
+            Fault::Day { refusal, .. } => write!(f, "{} day", refusal.number()),
+            Fault::Session { refusal, .. } => write!(f, "{} session", refusal.number()),
         }
     }
 }
