@@ -74,7 +74,7 @@ fn print(rt: &HostRuntime, path: &str) -> anyhow::Result<()> {
             return Err(error.into());
         }
     };
-    for line in told.lines.iter() {
+    for line in &told.lines {
         rt.println(line)?;
     }
     if let Some(summary) = told.summary {

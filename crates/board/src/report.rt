@@ -1,5 +1,5 @@
 // A day's report: a line for each record of an event file, and what the day came to.
-ghost use Rattle.std.specs.Prelude.{◌≡◌, [], IfOk, Some, OnOk};
+ghost use Rattle.std.specs.Prelude.{◌≡◌, IfOk, Some};
 ghost use Rattle.board.specs.Text.{letter_of, line_text, summary_text};
 ghost use Rattle.board.specs.Report.{LineOf, Goes, Reported};
 
@@ -27,10 +27,7 @@ impl fmt::Display for Line {
         let letter = self.letter;
         match self.outcome {
             Ok(Answer::Made | Answer::Rung | Answer::Closed) => write!(f, "{place} {letter} ok"),
-            Ok(Answer::Withdrawn) => {
-                let shares = 0u32;
-                write!(f, "{place} {letter} ok {shares}")
-            }
+            Ok(Answer::Withdrawn) => write!(f, "{place} {letter} ok {}", 0u32),
             Ok(Answer::Quoted { by_ask, by_bid }) => write!(
                 f,
                 "{place} {letter} ok {by_ask} {by_bid}"
@@ -39,9 +36,11 @@ impl fmt::Display for Line {
                 f,
                 "{place} {letter} ok {number} {filled}"
             ),
-            Ok(Answer::Cancelled { shares }) => write!(f, "{place} {letter} ok {shares}"),
-            Ok(Answer::Clicked { shares }) => write!(f, "{place} {letter} ok {shares}"),
-            Ok(Answer::Stepped { late }) => write!(f, "{place} {letter} ok {late}"),
+            Ok(
+                Answer::Cancelled { shares: count }
+                | Answer::Clicked { shares: count }
+                | Answer::Stepped { late: count },
+            ) => write!(f, "{place} {letter} ok {count}"),
             Err(fault) => write!(f, "{place} {letter} refused {fault}"),
         }
     }
@@ -72,10 +71,7 @@ fn letter(bytes: &[u8], outcome: &Result<Answer, Fault>) -> char
 {
     match outcome {
         Err(Fault::Reader { .. }) => '?',
-        _ => match bytes {
-            [kind, ..] => *kind as char,
-            [] => '?',
-        },
+        _ => bytes.first().map_or('?', |kind| char::from(*kind)),
     }
 }
 
@@ -92,20 +88,20 @@ fn take(day: &mut Day, memory: &mut Memory, bytes: &[u8]) -> Line
     }
 }
 
-// Hands a file to a day, 24 bytes at a time, and fills an empty list with the lines.
-fn fill(
-    lines: &mut Vec<Line>,
+// Hands a file to a day, 24 bytes at a time. Gives the lines.
+fn lines_of(
+    heap: Global,
     day: &mut Day,
     memory: &mut Memory,
     file: &[u8],
-) -> Result<(), AllocError>
-    requires { lines.old.items ≡ [] }
-    ensures { OnOk result (Goes file.now day.old memory.old lines.new.items day.new memory.new) }
+) -> Result<Vec<Line>, AllocError>
+    ensures { IfOk result (λ lines. Goes file.now day.old memory.old lines.items day.new memory.new) }
 {
+    let mut lines = Vec::new(heap);
     for piece in file.chunks(RECORD_LENGTH) {
         lines.push(take(day, memory, piece))?;
     }
-    Ok(())
+    Ok(lines)
 }
 
 // The lines of a file, and what its day came to where it was closed.
@@ -119,10 +115,8 @@ pub struct Report {
 pub fn run_file(heap: Global, memory: &mut Memory, file: &[u8]) -> Result<Report, AllocError>
     ensures { IfOk result (λ it. Reported file.now memory.old memory.new it.lines.items it.summary) }
 {
-    let mut lines = Vec::new(heap);
     let mut day = Day::new();
-    let filled = fill(&mut lines, &mut day, memory, file);
+    let lines = lines_of(heap, &mut day, memory, file);
     let summary = day.end();
-    filled?;
-    Ok(Report { lines, summary })
+    lines.map(|lines| Report { lines, summary })
 }

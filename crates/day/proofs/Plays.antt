@@ -1,5 +1,5 @@
--- Events taken one after another: a loop's start and turn, and what a run from a fresh session is. Assumes nothing.
-use Rattle.std.proofs.Common.{◌≡◌, ℕ, ◌+◌, ◌-◌, ◌<◌, ◌≤◌, true, List, [], ◌∷◌, ◌++◌, length, get_or, take, drop, Result, sym, refl, ap, ◌∙◌, subst, arith}
+-- Events taken one after another: a loop's turn, and what a run from a fresh session is. Assumes nothing.
+use Rattle.std.proofs.Common.{◌≡◌, ℕ, ◌+◌, ◌-◌, ◌<◌, ◌≤◌, true, List, [], ◌∷◌, ◌++◌, length, get_or, take, drop, Result, sym, ap, ◌∙◌, subst, arith}
 use Rattle.std.proofs.lemmas.List.{take_more, drop-drop}
 use Rattle.market.specs.declared.Config.{Config}
 use Rattle.market.specs.declared.Event.{Event}
@@ -24,9 +24,6 @@ drop_later xs ys n k h e =
     ap (λ j. drop j xs) (sym parts) ∙ sym (drop-drop (k - n) n xs) ∙ ap (drop (k - n)) e ∙ drop-drop (k - n) n ys ∙ ap (λ j. drop j ys) parts
 
 module _ (rule : Precedence) (s : Session) (m : Memory) where
-  pub played_none : (events : List Event) (outcomes : List (Result Answer Refusal)) → outcomes ≡ [] → Played rule s s m m (take 0 events) outcomes
-  played_none events outcomes e = record { plays = refl; answers = e; longer = omega arith; leaves = refl }
-
   -- one event more
   pub played_more : (s₁ s₂ : Session) (m₁ m₂ : Memory) (events : List Event) (i : ℕ) (d : Event) (outcomes more : List (Result Answer Refusal)) (r : Result Answer Refusal) → i < length events → Played rule s s₁ m m₁ (take i events) outcomes → Stepped rule (get_or events i d) s₁ s₂ m₁ m₂ r → more ≡ outcomes ++ r ∷ [] → Played rule s s₂ m m₂ (take (i + 1) events) more
   played_more s₁ s₂ m₁ m₂ events i d outcomes more r h p q e =

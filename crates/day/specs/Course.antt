@@ -6,7 +6,7 @@ use Rattle.market.specs.declared.Answer.{Answer}
 use Rattle.market.specs.declared.Refusal.{Refusal}
 use Rattle.market.specs.declared.Summary.{Summary}
 use Rattle.market.specs.Outcomes.{refusal_number}
-use Rattle.market.specs.Precedence.{Precedence, time_quotes, time_orders, size_quotes, size_orders}
+use Rattle.market.specs.Precedence.{Precedence}
 use Rattle.records.specs.declared.Malformed.{Malformed}
 use Rattle.records.specs.Layout.{event_bytes, EventFits}
 use Rattle.records.specs.Reading.{Reads}
@@ -16,21 +16,18 @@ use Rattle.session.specs.View.{PreOpen}
 use Rattle.session.specs.View.{SameMemory, Made}
 use Rattle.day.specs.declared.running.Session.{Session}
 use Rattle.day.specs.declared.running.Session.TheVariants.{Early}
-use Rattle.day.specs.declared.stages.Ruling.{Ruling}
-use Rattle.day.specs.declared.stages.Ruling.TheVariants.{Time, Size}
+use Rattle.day.specs.declared.rulings.Ruling.{Ruling}
+use Rattle.day.specs.declared.rulings.Ruling.TheVariants.{Time, Size}
 use Rattle.day.specs.declared.stages.Stage.{Stage}
 use Rattle.day.specs.declared.stages.Stage.TheVariants.{Unmade, Running, Ended}
 use Rattle.day.specs.declared.stages.Day.{Day}
 use Rattle.day.specs.declared.faults.Fault.{Fault}
-use Rattle.day.specs.declared.faults.Misread.{Misread}
-use Rattle.day.specs.declared.faults.Misplaced.{Misplaced}
-use Rattle.day.specs.declared.faults.Refused.{Refused}
+use Rattle.day.specs.Rulings.{quotes_of, orders_of}
 use Rattle.day.specs.Running.{Stepped, summary_of_closed}
 
 -- the meaning of a rule
 abbrev pub precedence_of : Ruling → Precedence
-precedence_of Time = rule_of time_quotes time_orders
-precedence_of Size = rule_of size_quotes size_orders
+precedence_of rule = rule_of (quotes_of rule) (orders_of rule)
 
 -- the place of the next record, which stays at the largest number of a word
 abbrev pub next_place : ℕ → ℕ
@@ -119,20 +116,10 @@ pub record Taken (bytes : List ℕ) (d d' : Day) (m m' : Memory) (r : Result Ans
 
 -- ---- the layers, each by itself
 
--- what the reader says, with the place
-abbrev pub ReadAt : (place : ℕ) → List ℕ → Result Event Misread → Type 0
-ReadAt place xs (Ok e) = Reads event_bytes EventFits xs (Ok e)
-ReadAt place xs (Err w) = (w.place ≡ place) × Reads event_bytes EventFits xs (Err w.malformed)
-
--- the day's error as a fault
-abbrev pub by_day : {A : Type 0} → Result A Misplaced → Result A Fault
-by_day (Ok x) = Ok x
-by_day (Err e) = Err (Fault.Day e.place e.refusal)
-
--- what the session's making says, with the place
-abbrev pub MadeAt : (place : ℕ) → Config → Memory → Memory → Result PreOpen Refused → Type 0
-MadeAt place c m m' (Ok p) = Made c m m' (Ok p)
-MadeAt place c m m' (Err e) = (e.place ≡ place) × Made c m m' (Err e.refusal)
+-- the event of a record, or the reader's fault at its place
+abbrev pub read_as : (place : ℕ) → Result Event Malformed → Result Event Fault
+read_as place (Ok e) = Ok e
+read_as place (Err w) = Err (Fault.Reader place w)
 
 -- what holds of what a reader says of the bytes
 abbrev pub Reading : List ℕ → (Result Event Malformed → Type 0) → Type 0

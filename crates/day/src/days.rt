@@ -1,63 +1,39 @@
 // A day: records in, answers and faults out.
 ghost use Rattle.std.specs.Prelude.{◌≡◌};
-ghost use Rattle.day.specs.Course.{precedence_of, ruling_of, making_of, BeginsBy, told, GoesOnBy, past_end, TakenBy, Taken, ReadAt, by_day, MadeAt, Reading, summary_at};
-ghost use Rattle.day.specs.Running.{Stepped};
+ghost use Rattle.day.specs.Course.{precedence_of, making_of, BeginsBy, told, GoesOnBy, past_end, TakenBy, Taken, read_as, Reading, summary_at};
 
-use crate::faults::{Fault, Misplaced, Misread, Refused};
+use crate::faults::Fault;
+use crate::rulings::Ruling;
 use crate::running::{Outcome, Session};
-use crate::stages::{Day, Ruling, Stage};
+use crate::stages::{Day, Stage};
 use book::memory::Memory;
 use market::{Answer, Config, Event, Refusal, Summary};
-use precedence::rules::{Size, Time};
 use records::read;
 use session::states::PreOpen;
 use std::mem;
 
-// The event of a record.
-fn read_at(place: u32, bytes: &[u8]) -> Result<Event, Misread>
-    ensures { ReadAt place bytes.now result }
+// The event of a record, or the reader's fault.
+fn read_at(place: u32, bytes: &[u8]) -> Result<Event, Fault>
+    ensures { Reading bytes.now (λ a. result ≡ read_as place a) }
 {
-    match read::<Event>(bytes) {
-        Ok(event) => Ok(event),
-        Err(malformed) => Err(Misread { place, malformed }),
-    }
-}
-
-// The rule of a number.
-fn ruling_at(place: u32, number: u32) -> Result<Ruling, Misplaced>
-    ensures { by_day result ≡ ruling_of place number }
-{
-    match number {
-        1 => Ok(Ruling::Time),
-        2 => Ok(Ruling::Size),
-        _ => Err(Misplaced {
-            place,
-            refusal: Refusal::BadConfig,
-        }),
-    }
+    read::<Event>(bytes).map_err(|malformed| Fault::Reader { place, malformed })
 }
 
 // The rule and the numbers of a making. Another event is out of turn.
-fn making_at(place: u32, event: &Event) -> Result<(Ruling, Config), Misplaced>
-    ensures { by_day result ≡ making_of place event.now }
+fn making_at(place: u32, event: &Event) -> Result<(Ruling, Config), Fault>
+    ensures { result ≡ making_of place event.now }
 {
     let Event::Make { config, rule } = *event else {
-        return Err(Misplaced {
+        return Err(Fault::Day {
             place,
             refusal: Refusal::OutOfTurn,
         });
     };
-    Ok((ruling_at(place, rule)?, config))
-}
-
-// A session made from these numbers.
-fn made_at(place: u32, config: Config, memory: &mut Memory) -> Result<PreOpen, Refused>
-    ensures { MadeAt place config memory.old memory.new result }
-{
-    match PreOpen::new(config, memory) {
-        Ok(session) => Ok(session),
-        Err(refusal) => Err(Refused { place, refusal }),
-    }
+    let rule = Ruling::try_from(rule).map_err(|_| Fault::Day {
+        place,
+        refusal: Refusal::BadConfig,
+    })?;
+    Ok((rule, config))
 }
 
 // Makes a session from the first record, which has to be a making.
@@ -66,37 +42,18 @@ fn begin(place: u32, memory: &mut Memory, bytes: &[u8]) -> Result<(Ruling, PreOp
 {
     let event = read_at(place, bytes)?;
     let (rule, config) = making_at(place, &event)?;
-    let session = made_at(place, config, memory)?;
-    Ok((rule, session))
+    let made = PreOpen::new(config, memory).map_err(|refusal| Fault::Session { place, refusal })?;
+    Ok((rule, made))
 }
 
 // What came of an event, with the layer and the place of a refusal.
 fn answer_at(place: u32, outcome: Outcome) -> Result<Answer, Fault>
     ensures { result ≡ told place outcome }
 {
-    match outcome {
-        Ok(answer) => Ok(answer),
-        Err(Refusal::OutOfTurn) => Err(Fault::from(Misplaced {
-            place,
-            refusal: Refusal::OutOfTurn,
-        })),
-        Err(refusal) => Err(Fault::from(Refused { place, refusal })),
-    }
-}
-
-// An event under a rule.
-fn take_under(
-    rule: Ruling,
-    session: Session,
-    memory: &mut Memory,
-    event: &Event,
-) -> (Session, Outcome)
-    ensures { Stepped (precedence_of rule) event.now session result.0 memory.old memory.new result.1 }
-{
-    match rule {
-        Ruling::Time => session.take(&Time, memory, event),
-        Ruling::Size => session.take(&Size, memory, event),
-    }
+    outcome.map_err(|refusal| match refusal {
+        Refusal::OutOfTurn => Fault::Day { place, refusal },
+        _ => Fault::Session { place, refusal },
+    })
 }
 
 // A record for a running session.
@@ -111,10 +68,10 @@ fn go_on(
 {
     match read_at(place, bytes) {
         Ok(event) => {
-            let (session, outcome) = take_under(rule, session, memory, &event);
+            let (session, outcome) = session.take(&rule, memory, &event);
             (session, answer_at(place, outcome))
         }
-        Err(misread) => (session, Err(Fault::from(misread))),
+        Err(fault) => (session, Err(fault)),
     }
 }
 
@@ -122,11 +79,11 @@ fn go_on(
 fn refuse_at(place: u32, bytes: &[u8]) -> Result<Answer, Fault>
     ensures { Reading bytes.now (λ a. result ≡ past_end place a) }
 {
-    let _event = read_at(place, bytes)?;
-    Err(Fault::from(Misplaced {
+    read_at(place, bytes)?;
+    Err(Fault::Day {
         place,
         refusal: Refusal::OutOfTurn,
-    }))
+    })
 }
 
 // The stage after a record, and the answer to it.
@@ -140,8 +97,7 @@ fn after(
 {
     match stage {
         Stage::Unmade => match begin(place, memory, bytes) {
-            Ok(begun) => {
-                let (rule, session) = begun;
+            Ok((rule, session)) => {
                 let session = Session::Early(session);
                 (Stage::Running { rule, session }, Ok(Answer::Made))
             }
@@ -175,7 +131,7 @@ impl Day {
         let (next, answer) = after(was, self.place, memory, bytes);
         match mem::replace(&mut self.stage, next) {
             Stage::Ended => answer,
-            _ => unreachable(),
+            _ => unreachable!(),
         }
     }
 
@@ -185,9 +141,8 @@ impl Day {
     {
         let Day { place: _, stage } = self;
         match stage {
-            Stage::Unmade => None,
             Stage::Running { rule: _, session } => session.end(),
-            Stage::Ended => None,
+            Stage::Unmade | Stage::Ended => None,
         }
     }
 }

@@ -3,6 +3,7 @@
 
 pub mod days;
 pub mod faults;
+pub mod rulings;
 pub mod running;
 pub mod runs;
 pub mod stages;

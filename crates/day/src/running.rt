@@ -26,26 +26,18 @@ fn before_bell<R: Rule>(
 ) -> (Session, Outcome)
     ensures { Stepped (rule_of (R.quotes rule.now) (R.orders rule.now)) event.now (phase.Early session) result.0 memory.old memory.new result.1 }
 {
-    match *event {
-        Event::Clock { time } => {
-            let outcome = session.step(rule, memory, time);
-            (Session::Early(session), outcome)
-        }
-        Event::Quote { dealer, pair } => {
-            let outcome = session.quote(rule, memory, dealer, pair);
-            (Session::Early(session), outcome)
-        }
-        Event::Withdraw { dealer } => {
-            let outcome = session.withdraw(rule, memory, dealer);
-            (Session::Early(session), outcome)
-        }
-        Event::Bell => ring(session, rule, memory),
+    let outcome = match *event {
+        Event::Clock { time } => session.step(rule, memory, time),
+        Event::Quote { dealer, pair } => session.quote(rule, memory, dealer, pair),
+        Event::Withdraw { dealer } => session.withdraw(rule, memory, dealer),
+        Event::Bell => return ring(session, rule, memory),
         Event::Make { .. }
         | Event::Order { .. }
         | Event::Cancel { .. }
         | Event::Click { .. }
-        | Event::Close => (Session::Early(session), Err(Refusal::OutOfTurn)),
-    }
+        | Event::Close => Err(Refusal::OutOfTurn),
+    };
+    (Session::Early(session), outcome)
 }
 
 fn ring<R: Rule>(session: PreOpen, rule: &R, memory: &mut Memory) -> (Session, Outcome)
@@ -53,10 +45,7 @@ fn ring<R: Rule>(session: PreOpen, rule: &R, memory: &mut Memory) -> (Session, O
 {
     match session.ring(rule, memory) {
         Ok(open) => (Session::Trading(open), Ok(Answer::Rung)),
-        Err(back) => {
-            let (refusal, session) = back;
-            (Session::Early(session), Err(refusal))
-        }
+        Err((refusal, session)) => (Session::Early(session), Err(refusal)),
     }
 }
 
@@ -68,23 +57,18 @@ fn after_bell<R: Rule>(
 ) -> (Session, Outcome)
     ensures { Stepped (rule_of (R.quotes rule.now) (R.orders rule.now)) event.now (phase.Trading session) result.0 memory.old memory.new result.1 }
 {
-    match *event {
-        Event::Clock { time } => {
-            let outcome = session.step(rule, memory, time);
-            (Session::Trading(session), outcome)
-        }
-        Event::Withdraw { dealer } => {
-            let outcome = session.withdraw(rule, memory, dealer);
-            (Session::Trading(session), outcome)
-        }
-        Event::Close => (Session::Over(session.close()), Ok(Answer::Closed)),
+    let outcome = match *event {
+        Event::Clock { time } => session.step(rule, memory, time),
+        Event::Withdraw { dealer } => session.withdraw(rule, memory, dealer),
+        Event::Close => return (Session::Over(session.close()), Ok(Answer::Closed)),
         Event::Make { .. }
         | Event::Quote { .. }
         | Event::Bell
         | Event::Order { .. }
         | Event::Cancel { .. }
-        | Event::Click { .. } => (Session::Trading(session), Err(Refusal::OutOfTurn)),
-    }
+        | Event::Click { .. } => Err(Refusal::OutOfTurn),
+    };
+    (Session::Trading(session), outcome)
 }
 
 impl Session {

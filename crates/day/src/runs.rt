@@ -11,7 +11,7 @@ use session::states::PreOpen;
 use std::alloc::Global;
 
 // Why a run did not begin.
-#[derive(Clone, Copy)]
+#[derive(Clone, Copy, PartialEq, Eq, Debug)]
 pub enum NoRun {
     // The session could not be made.
     Refused(Refusal),
@@ -51,14 +51,8 @@ pub fn run<R: Rule>(
 ) -> Result<(Session, Vec<Outcome>), NoRun>
     ensures { RunResult (rule_of (R.quotes rule.now) (R.orders rule.now)) config memory.old memory.new events.now result }
 {
-    let Ok(mut outcomes) = Vec::with_capacity(heap, events.len()) else {
-        return Err(NoRun::NoMemory);
-    };
-    match PreOpen::new(config, memory) {
-        Ok(session) => {
-            let session = play(Session::Early(session), rule, memory, events, &mut outcomes);
-            Ok((session, outcomes))
-        }
-        Err(refusal) => Err(NoRun::Refused(refusal)),
-    }
+    let mut outcomes = Vec::with_capacity(heap, events.len()).map_err(|_| NoRun::NoMemory)?;
+    let made = PreOpen::new(config, memory).map_err(NoRun::Refused)?;
+    let session = play(Session::Early(made), rule, memory, events, &mut outcomes);
+    Ok((session, outcomes))
 }

@@ -1,14 +1,8 @@
 // How far a day has come.
 ghost use Rattle.std.specs.Prelude.{◌≡◌};
 
+use crate::rulings::Ruling;
 use crate::running::Session;
-
-// The rules of precedence that a making can name by number.
-#[derive(Clone, Copy)]
-pub enum Ruling {
-    Time,
-    Size,
-}
 
 pub enum Stage {
     // No record has come yet.

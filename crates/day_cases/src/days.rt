@@ -104,10 +104,7 @@ fn spend(rt: &impl Abort, heap: Global, rows: &[(Record, Taken)]) -> Result<Came
         assert_eq!(rt; answer.1, row.1, "row {place}");
         assert_eq!(rt; answer.0 as usize, place);
     }
-    match memory.bids.first() {
-        Some(bid) => Ok((summary, Some(bid.dealer))),
-        None => Ok((summary, None)),
-    }
+    Ok((summary, memory.bids.first().map(|bid| bid.dealer)))
 }
 
 const NOTHING: Summary = Summary {

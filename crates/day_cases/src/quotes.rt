@@ -1,5 +1,5 @@
 // Quotes before the bell: what is refused, and where they stand.
-use crate::stores::{NO_QUOTE, QUOTED, Ran, play};
+use crate::stores::{NO_QUOTE, QUOTED, Ran, Step, play};
 use day::running::Outcome;
 use market::{Event, Pair, Quote, Refusal};
 use precedence::rules::{Rule, Size, Time};
@@ -114,6 +114,17 @@ const ROWS: [Row; 46] = [
     (2, 4800, 4000, 5000, 6000, QUOTED),
 ];
 
+fn step(row: &Row) -> Step {
+    let (dealer, bid, bid_quantity, ask, ask_quantity, outcome) = *row;
+    let pair = Pair {
+        bid,
+        bid_quantity,
+        ask,
+        ask_quantity,
+    };
+    (Event::Quote { dealer, pair }, outcome)
+}
+
 fn play_rows<R: Rule>(
     rt: &impl Abort,
     heap: Global,
@@ -121,18 +132,7 @@ fn play_rows<R: Rule>(
     dealers: u8,
     rows: &[Row],
 ) -> Result<Ran, Fail> {
-    let mut steps = Vec::new(heap);
-    for row in rows {
-        let (dealer, bid, bid_quantity, ask, ask_quantity, outcome) = *row;
-        let pair = Pair {
-            bid,
-            bid_quantity,
-            ask,
-            ask_quantity,
-        };
-        let event = Event::Quote { dealer, pair };
-        steps.push((event, outcome))?;
-    }
+    let steps: Vec<Step> = rows.iter().map(step).collect(heap)?;
     play(rt, heap, rule, dealers, steps.as_slice())
 }
 
@@ -178,11 +178,9 @@ fn dealers<R: Rule>(
 ) -> Result<[u8; 8], Fail> {
     let ran = play_rows(rt, heap, rule, 4, rows)?;
     let mut found = [0; 8];
-    for (place, quote) in found.iter_mut().zip(ran.store.bids.iter().take(4)) {
-        *place = quote.dealer;
-    }
-    for (place, quote) in found.iter_mut().skip(4).zip(ran.store.asks.iter()) {
-        *place = quote.dealer;
+    let quotes = ran.store.bids.iter().take(4).chain(ran.store.asks.iter());
+    for (dealer, quote) in found.iter_mut().zip(quotes) {
+        *dealer = quote.dealer;
     }
     Ok(found)
 }

@@ -251,19 +251,14 @@ fn duties_after_each_event(rt: HostRuntime) -> Result<(), Fail> {
         assert_eq!(rt; [states[0], states[1], states[2], states[3]], duties);
     }
     let ran = play(&rt, heap, &Size, 3, steps.as_slice())?;
-    assert_eq!(rt; ran.store.tape.iter().take(6).eq(TOLD.iter()), true);
+    assert_eq!(rt; ran.store.tape.get(..6), Some(&TOLD[..]));
     Ok(())
 }
 
 // Plays 62 quotes of dealer 1, and then the steps: the tape has 2 free places before the first of them.
 fn play_filled(rt: &impl Abort, heap: Global, dealers: u8, rest: &[Step]) -> Result<Ran, Fail> {
-    let mut steps = Vec::new(heap);
-    for _ in 0..62 {
-        steps.push((FIRST, QUOTED))?;
-    }
-    for step in rest {
-        steps.push(*step)?;
-    }
+    let mut steps = vec![in heap; (FIRST, QUOTED); 62]?;
+    steps.extend_from_slice(rest)?;
     play(rt, heap, &Time, dealers, steps.as_slice())
 }
 

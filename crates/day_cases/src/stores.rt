@@ -110,9 +110,7 @@ fn run_in<R: Rule>(heap: Global, rule: &R, config: Config, events: &[Event]) -> 
         duties: &mut duties,
         tape: &mut tape,
     };
-    let Ok((session, outcomes)) = run(heap, rule, config, &mut memory, events) else {
-        return Err(Fail::new("no run"));
-    };
+    let (session, outcomes) = run(heap, rule, config, &mut memory, events)?;
     let summary = session.end();
     Ok(Ran {
         store: stored(heap, &memory)?,
@@ -136,14 +134,12 @@ pub fn play<R: Rule>(
         previous_average: 5000,
         day_kind: 0,
     };
-    let mut events = Vec::new(heap);
-    let mut accepted = Vec::new(heap);
-    for step in steps {
-        events.push(step.0)?;
-        if step.1.is_ok() {
-            accepted.push(step.0)?;
-        }
-    }
+    let events: Vec<Event> = steps.iter().map(|step| step.0).collect(heap)?;
+    let accepted: Vec<Event> = steps
+        .iter()
+        .filter(|step| step.1.is_ok())
+        .map(|step| step.0)
+        .collect(heap)?;
     let ran = run_in(heap, rule, config, events.as_slice())?;
     assert_eq!(rt; ran.outcomes.len(), steps.len());
     for (place, (step, outcome)) in steps.iter().zip(ran.outcomes.iter()).enumerate() {
