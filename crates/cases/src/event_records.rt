@@ -88,12 +88,12 @@ const CASES: [Case<Event>; 10] = [
 
 #[test]
 fn each_kind_writes_and_reads(rt: HostRuntime) {
-    tables::each_is_written_and_read(&rt, &CASES);
+    assert_eq!(rt; tables::not_both_ways(&CASES), None);
 }
 
 #[test]
 fn each_byte_is_judged(rt: HostRuntime) {
-    tables::each_byte_is_judged(&rt, &CASES);
+    assert_eq!(rt; tables::not_judged(&CASES), None);
 }
 
 // Of two wrong bytes the first counts, a letter of the other format is none here, and a side belongs to an order alone.
@@ -111,5 +111,5 @@ fn the_first_wrong_byte_counts(rt: HostRuntime) {
 
 #[test]
 fn the_length_counts_before_any_byte(rt: HostRuntime) {
-    tables::length_counts_first::<Event>(&rt);
+    assert_eq!(rt; tables::length_not_first::<Event>(), None);
 }

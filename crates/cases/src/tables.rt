@@ -1,9 +1,5 @@
-// What the tables of both formats are tried by.
-ghost use Rattle.std.specs.Prelude.{◌<◌};
-
+// What the tables of both formats are tried by. Each search gives the place of the first row that is not as it should be.
 use records::{Malformed, Record, read, write};
-use std::fmt::Debug;
-use std::process::Abort;
 
 // A record by its value and its bytes, and which of these are judged: `#` where one value is right, `.` where any is.
 #[derive(Clone, Copy)]
@@ -13,48 +9,54 @@ pub struct Case<T> {
     pub judged: [u8; 24],
 }
 
-// Each value is written as its bytes, and these are read as it.
-pub fn each_is_written_and_read<T: Record + PartialEq + Debug>(rt: &impl Abort, cases: &[Case<T>]) {
-    for case in cases {
-        assert_eq!(rt; write(&case.value), case.bytes);
-        assert_eq!(rt; read(&case.bytes), Ok(case.value));
-    }
+// Whether the value is written as its bytes, and these are read as it.
+fn goes_both_ways<T: Record + PartialEq>(case: &Case<T>) -> bool {
+    write(&case.value) == case.bytes && read(&case.bytes) == Ok(case.value)
+}
+
+pub fn not_both_ways<T: Record + PartialEq>(cases: &[Case<T>]) -> Option<usize> {
+    cases.iter().position(|case| !goes_both_ways(case))
 }
 
 // The bytes with a value at this place that no row has there.
-fn spoilt(mut bytes: [u8; 24], place: usize) -> [u8; 24]
-    requires { place < 24 }
-{
-    bytes[place] = 0xee;
+fn spoilt(mut bytes: [u8; 24], place: usize) -> [u8; 24] {
+    if let Some(byte) = bytes.get_mut(place) {
+        *byte = 0xee;
+    }
     bytes
 }
 
-// A byte of another value is wrong at each judged place and at no other; what is then accepted writes back.
-pub fn each_byte_is_judged<T: Record>(rt: &impl Abort, cases: &[Case<T>]) {
-    for case in cases {
-        for (place, judged) in case.judged.iter().enumerate() {
-            let bytes = spoilt(case.bytes, place);
-            match read::<T>(&bytes) {
-                Ok(value) => {
-                    assert_eq!(rt; *judged, b'.');
-                    assert_eq!(rt; write(&value), bytes);
-                }
-                Err(malformed) => {
-                    assert_eq!(rt; *judged, b'#');
-                    assert_eq!(rt; malformed, Malformed::Byte { place });
-                }
-            }
-        }
+// Whether a byte of another value at this place is wrong just where it is judged; what is then accepted writes back.
+fn is_judged<T: Record>(case: &Case<T>, place: usize, judged: u8) -> bool {
+    let bytes = spoilt(case.bytes, place);
+    match read::<T>(&bytes) {
+        Ok(value) => judged == b'.' && write(&value) == bytes,
+        Err(malformed) => judged == b'#' && malformed == Malformed::Byte { place },
     }
 }
 
-// Bytes of another length than a record's have no value, whatever they are.
-pub fn length_counts_first<T: Record + PartialEq + Debug>(rt: &impl Abort) {
-    let bytes = [0xee; 48];
-    for found in [0, 3, 4, 23, 25, 48] {
-        assert_eq!(rt;
-            read::<T>(&bytes[..found]),
-            Err(Malformed::Length { found })
-        );
+// The same for each place of a row.
+fn is_judged_throughout<T: Record>(case: &Case<T>) -> bool {
+    case.judged
+        .iter()
+        .enumerate()
+        .all(|(place, judged)| is_judged(case, place, *judged))
+}
+
+pub fn not_judged<T: Record>(cases: &[Case<T>]) -> Option<usize> {
+    cases.iter().position(|case| !is_judged_throughout(case))
+}
+
+// Whether so many bytes are refused for their length, whatever they are.
+fn counts_first<T: Record + PartialEq>(found: usize) -> bool {
+    match [0xee; 48].get(..found) {
+        Some(bytes) => read::<T>(bytes) == Err(Malformed::Length { found }),
+        None => false,
     }
+}
+
+pub fn length_not_first<T: Record + PartialEq>() -> Option<usize> {
+    [0, 3, 4, 23, 25, 48]
+        .iter()
+        .position(|found| !counts_first::<T>(*found))
 }

@@ -1,7 +1,7 @@
 // Books that are not lawful, and what a session says to them.
 use crate::stores::{ALL_LATE, FIRST, NO_ORDER, NO_QUOTE, NO_RECORD, SECOND, stored};
 use book::lawful::is_lawful;
-use book::memory::{Counts, Memory};
+use book::memory::{Lengths, Memory};
 use day::running::Session;
 use market::{Config, Event, Order, Quote, Refusal, Side};
 use precedence::rules::{Rule, Size, Time};
@@ -140,7 +140,7 @@ fn are_lawful(second: Second) -> (bool, bool) {
         duties: &mut duties,
         tape: &mut [NO_RECORD; 64],
     };
-    let counts = Counts {
+    let counts = Lengths {
         bids: 2,
         asks: 2,
         buys: 2,
