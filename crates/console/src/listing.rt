@@ -1,11 +1,10 @@
 // What each record of an event file says, a line each.
 ghost use Rattle.std.specs.Prelude.{◌≡◌, IfOk, Some};
-ghost use Rattle.records.specs.Layout.{letter};
 ghost use Rattle.console.specs.Text.{line_text};
 ghost use Rattle.console.specs.Listing.{LineOf, Lists};
 
-use market::{Event, Side};
-use records::{Malformed, RECORD_LENGTH, read};
+use market::Event;
+use records::{Malformed, RECORD_LENGTH, read, side_letter};
 use std::alloc::{AllocError, Global};
 use std::fmt;
 
@@ -25,16 +24,6 @@ impl Line {
             place,
             said: read(bytes),
         }
-    }
-}
-
-// The letter of an order's side.
-fn side_letter(side: Side) -> char
-    ensures { result ≡ letter side }
-{
-    match side {
-        Side::Buy => 'B',
-        Side::Sell => 'S',
     }
 }
 
@@ -63,7 +52,11 @@ impl fmt::Display for Line {
                     price,
                     quantity,
                 },
-            ) => write!(f, "{place} O {} {price} {quantity}", side_letter(side)),
+            ) => write!(
+                f,
+                "{place} O {} {price} {quantity}",
+                side_letter(side) as char
+            ),
             Ok(Event::Cancel { number, amount }) => write!(f, "{place} C {number} {amount}"),
             Ok(Event::Click { dealer, number }) => write!(f, "{place} K {dealer} {number}"),
             Ok(Event::Close) => write!(f, "{place} E"),

@@ -7,7 +7,7 @@ mod parts;
 mod tape;
 
 pub use codec::{Record, read, write};
-pub use parts::{Head, Words};
+pub use parts::{Head, Words, side_letter};
 
 pub const RECORD_LENGTH: usize = 24;
 

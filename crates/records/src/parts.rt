@@ -68,7 +68,8 @@ pub fn pair_of(words: Words) -> Pair
     }
 }
 
-fn side_letter(side: Side) -> u8
+// The letter that stands for a side.
+pub fn side_letter(side: Side) -> u8
     ensures { result ≡ letter side }
 {
     match side {
