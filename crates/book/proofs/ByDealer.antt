@@ -133,36 +133,38 @@ module _ (t : ℕ) (ds : List Duty) (free : List TapeRecord) where
 
   module _ (now_free : List TapeRecord) (told i : ℕ) (h : i < length ds) where
     -- a dealer that is in time
-    pub told_same : None ≡ missed_time t (get_or ds i Duty.InOrder) → Told t ds free now_free told i → Told t ds free now_free told (i + 1)
-    told_same is s =
-        let same : late_records t 1 (take i ds) ≡ late_records t 1 (take (i + 1) ds) = sym (within_late t ds i Duty.InOrder None h is ∙ append-nil (late_records t 1 (take i ds))) in
+    pub told_same : [] ≡ late_record t (i + 1) (missed_time t (get_or ds i Duty.InOrder)) → Told t ds free now_free told i → Told t ds free now_free told (i + 1)
+    told_same none s =
+        let same : late_records t 1 (take i ds) ≡ late_records t 1 (take (i + 1) ds) = sym (within_late t ds i Duty.InOrder _ h refl ∙ ap (λ rs. late_records t 1 (take i ds) ++ rs) (sym none) ∙ append-nil (late_records t 1 (take i ds))) in
         record { counted = s.counted ∙ ap length same; written = s.written ∙ same; behind = s.behind }
 
-    module _ (u : ℕ) (is : Some u ≡ missed_time t (get_or ds i Duty.InOrder)) (room : length (late_records t 1 ds) ≤ length free) (s : Told t ds free now_free told i) where
+    module _ (r : TapeRecord) (is : r ∷ [] ≡ late_record t (i + 1) (missed_time t (get_or ds i Duty.InOrder))) (room : length (late_records t 1 ds) ≤ length free) (s : Told t ds free now_free told i) where
+      more : late_records t 1 (take (i + 1) ds) ≡ late_records t 1 (take i ds) ++ r ∷ []
+      more = within_late t ds i Duty.InOrder _ h refl ∙ ap (λ rs. late_records t 1 (take i ds) ++ rs) (sym is)
+
+      longer : length (late_records t 1 (take (i + 1) ds)) ≡ length (late_records t 1 (take i ds)) + 1
+      longer = ap length more ∙ length-append (late_records t 1 (take i ds)) (r ∷ [])
+
       -- one that is late has its place
       pub told_room : told < length free
       told_room =
-          let one = ap length (within_late t ds i Duty.InOrder (Some u) h is) ∙ length-append (late_records t 1 (take i ds)) (late_record t (i + 1) (Some u)) in
           let grows = late_grows t ds (i + 1) (length ds) (omega arith) in
           let all = ap (λ zs. length (late_records t 1 zs)) (take_all (length ds) ds (omega arith)) in
+          let one = longer in
           let counted = s.counted in
           omega arith
 
       -- and its record
-      pub told_more : told < length now_free → Told t ds free (set now_free told (TapeRecord.Late t (i + 1) u)) (told + 1) (i + 1)
-      told_more fits =
-          let r = TapeRecord.Late t (i + 1) u in
-          let more : late_records t 1 (take (i + 1) ds) ≡ late_records t 1 (take i ds) ++ r ∷ [] = within_late t ds i Duty.InOrder (Some u) h is in
-          let longer = ap length more ∙ length-append (late_records t 1 (take i ds)) (r ∷ []) in
-          record {
-            counted = let counted = s.counted in omega arith;
-            written = take_more_set now_free told r fits ∙ ap (λ rs. rs ++ r ∷ []) s.written ∙ sym more;
-            behind =
-                drop-set-lt (told + 1) now_free told r (omega arith)
-                ∙ sym (drop-drop 1 told now_free)
-                ∙ ap (drop 1) s.behind
-                ∙ drop-drop 1 told free;
-          }
+      pub told_more : told < length now_free → Told t ds free (set now_free told r) (told + 1) (i + 1)
+      told_more fits = record {
+        counted = let one = longer in let counted = s.counted in omega arith;
+        written = take_more_set now_free told r fits ∙ ap (λ rs. rs ++ r ∷ []) s.written ∙ sym more;
+        behind =
+            drop-set-lt (told + 1) now_free told r (omega arith)
+            ∙ sym (drop-drop 1 told now_free)
+            ∙ ap (drop 1) s.behind
+            ∙ drop-drop 1 told free;
+      }
 
 -- ---- a tape of which the free places were written to
 

@@ -1,5 +1,5 @@
 // How the sixteen dealers stand to their duty to quote.
-ghost use Rattle.std.specs.Prelude.{◌≡◌, ◌+◌, ◌-◌, ◌<◌, ◌≤◌, ◌++◌, length, take, drop, replicate, slice_set};
+ghost use Rattle.std.specs.Prelude.{◌≡◌, ◌+◌, ◌-◌, ◌<◌, ◌≤◌, ◌++◌, length, take, drop, replicate, slice_set, option_to_list, is_some, count_by};
 ghost use Rattle.market.specs.Events.{of_dealers, quotes_both, duty_after, duties_after, missed_time, late_record, late_records, duty_at};
 
 use crate::limits::LOT;
@@ -61,6 +61,27 @@ fn at_time(time: u32, duty: Duty) -> Duty
     }
 }
 
+// The record of a dealer that is short until an earlier time.
+fn late_record(time: u32, dealer: u8, duty: Duty) -> Option<TapeRecord>
+    ensures { option_to_list result ≡ late_record time dealer (missed_time time duty) }
+{
+    missed(time, duty).map(|missed| TapeRecord::Late {
+        time,
+        dealer,
+        missed,
+    })
+}
+
+// How many of these are short until an earlier time.
+fn count_short(duties: &[Duty], time: u32) -> usize
+    ensures { result ≡ count_by (λ d. is_some (missed_time time d)) duties.now }
+{
+    duties
+        .iter()
+        .filter(|duty| missed(time, **duty).is_some())
+        .count()
+}
+
 impl Duties {
     pub fn all_in_order() -> Duties
         ensures { result.states ≡ replicate 16 Duty.InOrder }
@@ -116,10 +137,7 @@ impl Duties {
     pub fn count_late(&self, dealers: u8, time: u32) -> usize
         ensures { result ≡ length (late_records time 1 (take dealers self.now.states)) }
     {
-        self.of_first(dealers)
-            .iter()
-            .filter(|duty| missed(time, **duty).is_some())
-            .count()
+        count_short(self.of_first(dealers), time)
     }
 
     // Writes a record for each dealer that is short until an earlier time, in the order of dealers, to the free places of a tape.
@@ -133,13 +151,8 @@ impl Duties {
         let duties = self.of_first(dealers);
         let mut told = 0;
         for (i, duty) in duties.iter().enumerate() {
-            if let Some(missed) = missed(time, *duty) {
-                let dealer = i as u8 + 1;
-                free[told] = TapeRecord::Late {
-                    time,
-                    dealer,
-                    missed,
-                };
+            if let Some(late) = late_record(time, i as u8 + 1, *duty) {
+                free[told] = late;
                 told += 1;
             }
         }

@@ -10,11 +10,18 @@ use market::{Quote, Side};
 use precedence::list::{insert, remove};
 use precedence::rules::Rule;
 
+// A dealer's quote among these.
+fn quote_of(quotes: &[Quote], dealer: u8) -> Option<Quote>
+    ensures { result ≡ quote_by dealer quotes.now }
+{
+    quotes.iter().find(|quote| quote.dealer == dealer).copied()
+}
+
 // What is left of a dealer's quote, 0 where it has none among these.
 pub fn live_of(quotes: &[Quote], dealer: u8) -> u32
     ensures { result ≡ live_in (quote_by dealer quotes.now) }
 {
-    match quotes.iter().find(|quote| quote.dealer == dealer) {
+    match quote_of(quotes, dealer) {
         Some(quote) => quote.live,
         None => 0,
     }
@@ -32,7 +39,7 @@ fn place_of(quotes: &[Quote], dealer: u8) -> Option<usize>
 pub fn stands(quotes: &[Quote], dealer: u8) -> bool
     ensures { result ≡ is_some (quote_by dealer quotes.now) }
 {
-    quotes.iter().any(|quote| quote.dealer == dealer)
+    quote_of(quotes, dealer).is_some()
 }
 
 // Takes a dealer's quote out of the first `count` of these places, where no dealer stands twice. Gives the new count.

@@ -1,5 +1,6 @@
 // What each record of an event file says, a line each.
 ghost use Rattle.std.specs.Prelude.{◌≡◌, IfOk, Some};
+ghost use Rattle.std.specs.Slice.Iter.{chunks_rest, chunks_size};
 ghost use Rattle.console.specs.Text.{line_text};
 ghost use Rattle.console.specs.Listing.{LineOf, Lists};
 
@@ -7,6 +8,7 @@ use market::Event;
 use records::{Malformed, RECORD_LENGTH, read, side_letter};
 use std::alloc::{AllocError, Global};
 use std::fmt;
+use std::slice::Chunks;
 
 // A record's place in its file, from 1, and what it says or why it is none.
 #[derive(Drop)]
@@ -67,11 +69,19 @@ impl fmt::Display for Line {
     }
 }
 
+// What the records of a file may stand in: its bytes, 24 at a time.
+fn pieces(file: &[u8]) -> Chunks<'_, u8>
+    ensures size { chunks_size result ≡ 24 }
+    ensures rest { chunks_rest result ≡ file.now }
+{
+    file.chunks(RECORD_LENGTH)
+}
+
 // The lines of an event file: one for each 24 bytes, and one for what is left over at its end.
 pub fn listing(heap: Global, file: &[u8]) -> Result<Vec<Line>, AllocError>
     ensures { IfOk result (λ v. Lists 1 file.now v.items) }
 {
-    file.chunks(RECORD_LENGTH)
+    pieces(file)
         .enumerate()
         .map(|(index, piece)| Line::of(index + 1, piece))
         .collect(heap)

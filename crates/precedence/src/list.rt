@@ -85,6 +85,16 @@ pub fn insert<R, T: Ranked<R>>(rule: &R, side: Side, list: &mut [T], item: T)
     list[at] = item;
 }
 
+// Moves the entries behind a place down by one. The last place keeps what it had.
+fn close_gap<T: Copy>(entries: &mut [T], at: usize)
+    requires { at < length entries.old }
+    ensures after { entries.new ≡ remove entries.old at ++ drop (length entries.old - 1) entries.old }
+    ensures front { take (length entries.old - 1) entries.new ≡ remove entries.old at }
+    ensures ordered { (b : T → T → Bool) → Ordered b entries.old → Ordered b (take (length entries.old - 1) entries.new) }
+{
+    entries.copy_within(at + 1.., at);
+}
+
 // Takes out the entry at a place, gives it back, and moves those behind it down by one; the last place keeps what it had.
 // Under whichever relation the entries were in order, those that are left still are.
 pub fn remove<T: Copy>(entries: &mut [T], at: usize) -> T
@@ -95,7 +105,7 @@ pub fn remove<T: Copy>(entries: &mut [T], at: usize) -> T
     ensures ordered { (b : T → T → Bool) → Ordered b entries.old → Ordered b (take (length entries.old - 1) entries.new) }
 {
     let entry = entries[at];
-    entries.copy_within(at + 1.., at);
+    close_gap(entries, at);
     entry
 }
 

@@ -126,10 +126,15 @@ pub record Settled (phase : Phase) (l : Ledger) (m m' : Memory) : Type 0 where
   pub settles : view phase l m' ≡ settled (view phase l m)
   pub keeps_tape : m'.tape.now ≡ m.tape.now
 
--- what the bell did: an open session, or the one before the bell handed back with the refusal and all as before
+-- what the bell did to a session's numbers: trading is open, or it is refused and all is as before
+abbrev pub BellRang : Precedence → Ledger → Ledger → Memory → Memory → Result (Unit {0}) Refusal → Type 0
+BellRang rule l l' m m' (Ok done) = Did (bell_step rule (view before_bell l m)) trading l l' m m' (Ok Answer.Rung)
+BellRang rule l l' m m' (Err why) = Did (bell_step rule (view before_bell l m)) before_bell l l' m m' (Err why)
+
+-- what the bell did: an open session, or the one before the bell handed back with the refusal
 abbrev pub Rang : Precedence → PreOpen → Memory → Memory → Result Open (Refusal × PreOpen) → Type 0
-Rang rule p m m' (Ok o) = Did (bell_step rule (view before_bell p.ledger m)) trading p.ledger o.ledger m m' (Ok Answer.Rung)
-Rang rule p m m' (Err back) = Did (bell_step rule (view before_bell p.ledger m)) before_bell p.ledger back.1.ledger m m' (Err back.0) × (back.1 ≡ p)
+Rang rule p m m' (Ok o) = BellRang rule p.ledger o.ledger m m' (Ok tt)
+Rang rule p m m' (Err back) = BellRang rule p.ledger back.1.ledger m m' (Err back.0) × (back.1 ≡ p)
 
 -- the numbers of a session in which nothing has happened yet
 pub record NewLedger (c : Config) (p : Lengths) (l : Ledger) : Type 0 where

@@ -9,9 +9,6 @@ use book::memory::Memory;
 use market::{Answer, Pair, Refusal};
 use precedence::rules::Rule;
 
-// The time of the bell: 09:00.
-const BELL: u32 = 3_240_000;
-
 impl Session<BeforeBell> {
     // Both sides replace what the dealer had. Before the bell nothing trades.
     pub fn quote<R: Rule>(
@@ -23,32 +20,21 @@ impl Session<BeforeBell> {
     ) -> Result<Answer, Refusal>
         ensures { Did (early_quote_step (rule_of (R.quotes rule.now) (R.orders rule.now)) dealer pair (view before_bell self.old.ledger memory.old)) before_bell self.old.ledger self.new.ledger memory.old memory.new result }
     {
-        self.ledger.may_quote(rule, memory, dealer, pair)?;
-        self.ledger.enter_pair(rule, memory, dealer, pair);
-        Ok(Answer::Quoted {
-            by_ask: 0,
-            by_bid: 0,
-        })
+        self.ledger.early_quote(rule, memory, dealer, pair)
     }
 
     // Opens trading at the time of the bell, or hands the session back where the book is not lawful.
     pub fn ring<R: Rule>(self, rule: &R, memory: &mut Memory) -> Result<Open, (Refusal, PreOpen)>
         ensures { Rang (rule_of (R.quotes rule.now) (R.orders rule.now)) self memory.old memory.new result }
     {
-        if !self.ledger.is_lawful(rule, memory) {
-            return Err((Refusal::UnlawfulBook, self));
+        let Session { mut ledger, phase } = self;
+        match ledger.ring(rule, memory) {
+            Ok(()) => Ok(Session {
+                ledger,
+                phase: Trading,
+            }),
+            Err(refusal) => Err((refusal, Session { ledger, phase })),
         }
-        let Session {
-            mut ledger,
-            phase: _,
-        } = self;
-        ledger.clock = BELL;
-        let open = Session {
-            ledger,
-            phase: Trading,
-        };
-        open.settle(memory);
-        Ok(open)
     }
 
     // Gives the session up before the bell.

@@ -3,6 +3,7 @@
 
 mod accepting;
 mod before_bell;
+mod events;
 pub mod ledger;
 mod making;
 mod refusing;

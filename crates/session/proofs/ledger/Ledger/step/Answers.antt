@@ -2,7 +2,7 @@ use Rattle.std.proofs.Common.{◌∙◌}
 use Rattle.market.specs.Events.{clock_step, stepped}
 use Rattle.std.proofs.lemmas.Result.{err_from_is_err_and}
 use Rattle.session.proofs.Calls.{refused, accepted, settled_then, left_behind, answered}
-use Rattle.session.proofs.states.Session.step.Goals as goal
+use Rattle.session.proofs.ledger.Ledger.step.Goals as goal
 
 pub returns-in_err-may_step : goal.returns-in_err-may_step
 unfolding clock_step

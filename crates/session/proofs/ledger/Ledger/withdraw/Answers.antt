@@ -1,7 +1,7 @@
 use Rattle.market.specs.Events.{withdrawal_step, withdrawn}
 use Rattle.std.proofs.lemmas.Result.{err_from_is_err_and}
 use Rattle.session.proofs.Calls.{refused, accepted, settled_then, left_behind}
-use Rattle.session.proofs.states.Session.withdraw.Goals as goal
+use Rattle.session.proofs.ledger.Ledger.withdraw.Goals as goal
 
 pub returns-in_err-may_withdraw : goal.returns-in_err-may_withdraw
 unfolding withdrawal_step

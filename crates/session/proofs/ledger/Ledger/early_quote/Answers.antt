@@ -2,7 +2,7 @@ use Rattle.market.specs.State.{before_bell}
 use Rattle.market.specs.Events.{early_quote_step}
 use Rattle.std.proofs.lemmas.Result.{err_from_is_err_and}
 use Rattle.session.proofs.Calls.{refused, accepted}
-use Rattle.session.proofs.before_bell.Session+BeforeBell.quote.Goals as goal
+use Rattle.session.proofs.ledger.Ledger.early_quote.Goals as goal
 
 pub returns-in_err-may_quote : goal.returns-in_err-may_quote
 unfolding early_quote_step
