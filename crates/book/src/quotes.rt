@@ -43,6 +43,7 @@ pub fn stands(quotes: &[Quote], dealer: u8) -> bool
 }
 
 // Takes a dealer's quote out of the first `count` of these places, where no dealer stands twice. Gives the new count.
+// The count stands beside the places, here and below: these are lent memory, of which the session knows how much is in use.
 pub fn withdraw(places: &mut [Quote], count: usize, dealer: u8) -> usize
     requires within { count ≤ length places.old }
     requires apart { apart (λ (q : QuoteOf). q.dealer) (take count places.old) ≡ true }

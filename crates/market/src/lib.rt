@@ -84,7 +84,7 @@ pub struct Config {
     pub least_quantity: u32,
     // The previous day's weighted average price.
     pub previous_average: u32,
-    // 0 for an ordinary day; 1 to 4 for the days that are not.
+    // 0 for an ordinary day; 1 to 4 for the days that are not. A number and no enum, since a reader takes any number there.
     pub day_kind: u32,
 }
 
@@ -195,7 +195,7 @@ pub enum TapeRecord {
         dealer: u8,
         missed: u32,
     },
-    // The average ran away: 1 upward, 2 downward.
+    // The average ran away: 1 upward, 2 downward. A number and no enum, since a reader takes any number there.
     Halt {
         time: u32,
         direction: u32,

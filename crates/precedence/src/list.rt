@@ -110,6 +110,7 @@ pub fn remove<T: Copy>(entries: &mut [T], at: usize) -> T
 }
 
 // Whether the entries stand strictly in precedence: each before the next, and so, by transitivity, before all behind it.
+// The loop has an index, since a rule of this project asks that the test of a book names the neighbours that it compares.
 pub fn in_order<R, T: Ranked<R>>(rule: &R, side: Side, entries: &[T]) -> bool
     ensures { result ≡ ordered (T.before rule.now side) entries.now }
 {

@@ -57,6 +57,8 @@ pub struct Time;
 #[derive(Clone, Copy)]
 pub struct Size;
 
+// Here and in Size the two methods differ in the field that is the arrival number. A trait that reads both keys alike would be
+// longer than these bodies.
 impl Rule for Time {
     ghost quotes = { λ _. time_quotes };
 
