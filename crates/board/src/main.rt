@@ -4,7 +4,7 @@
 use anyhow::anyhow;
 use book::duties::Duties;
 use book::memory::Memory;
-use market::{Duty, Order, Quote, TapeRecord};
+use market::{Order, Quote, TapeRecord};
 use report::{Report, SummaryLine, run_file};
 use std::alloc::{AllocError, Global};
 use std::process::ExitCode;
@@ -45,9 +45,7 @@ fn run(heap: Global, file: &[u8]) -> Result<Report, AllocError> {
     let mut buys = vec![in heap; NO_ORDER; ORDER_PLACES]?;
     let mut sells = vec![in heap; NO_ORDER; ORDER_PLACES]?;
     let mut tape = vec![in heap; NO_RECORD; TAPE_PLACES]?;
-    let mut duties = Duties {
-        states: [Duty::InOrder; QUOTE_PLACES],
-    };
+    let mut duties = Duties::all_in_order();
     let mut memory = Memory {
         bids: bids.as_mut_slice(),
         asks: asks.as_mut_slice(),

@@ -29,8 +29,7 @@ fn after(clock: u32, both: bool, duty: Duty) -> Duty
         Duty::InOrder => Duty::Short {
             until: clock + GRACE,
         },
-        Duty::Short { until } => Duty::Short { until },
-        Duty::Late => Duty::Late,
+        Duty::Short { .. } | Duty::Late => duty,
     }
 }
 

@@ -43,7 +43,7 @@ impl Numbered for Order {
 fn quote_is_lawful(dealers: u8, count: u32, quote: &Quote) -> bool
     ensures { result ≡ lawful_quote dealers count quote.now }
 {
-    is_within(1, u32::from(dealers), u32::from(quote.dealer))
+    (1..=dealers).contains(&quote.dealer)
         && is_price(quote.price)
         && is_within(1, count, quote.arrival)
         && quote.entered <= LARGEST_QUOTE

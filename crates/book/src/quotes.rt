@@ -21,10 +21,7 @@ fn quote_of(quotes: &[Quote], dealer: u8) -> Option<Quote>
 pub fn live_of(quotes: &[Quote], dealer: u8) -> u32
     ensures { result ≡ live_in (quote_by dealer quotes.now) }
 {
-    match quote_of(quotes, dealer) {
-        Some(quote) => quote.live,
-        None => 0,
-    }
+    quote_of(quotes, dealer).map_or(0, |quote| quote.live)
 }
 
 // Where a dealer's quote stands.

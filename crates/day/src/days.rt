@@ -71,6 +71,7 @@ fn go_on(
             let (session, outcome) = session.take(&rule, memory, &event);
             (session, answer_at(place, outcome))
         }
+        // The session goes on beside the fault, so `?` would lose it.
         Err(fault) => (session, Err(fault)),
     }
 }

@@ -8,12 +8,12 @@ use std::alloc::{AllocError, Global};
 use std::test::Fail;
 
 // How many places there are for bids, asks, buys, sells and the tape.
-type Lengths = [usize; 5];
+type PlaceCounts = [usize; 5];
 
 // The numbers of the making (dealers, least quantity, previous average, kind of day), the lengths, and whether they are allowed.
-type Row = (u8, u32, u32, u32, Lengths, bool);
+type Row = (u8, u32, u32, u32, PlaceCounts, bool);
 
-const USUAL: Lengths = [16, 16, 2, 3, 64];
+const USUAL: PlaceCounts = [16, 16, 2, 3, 64];
 
 const ROWS: [Row; 44] = [
     (0, 1000, 5000, 0, USUAL, false),
@@ -70,7 +70,7 @@ const ALL_IN_ORDER: Duties = Duties {
 fn make(
     heap: Global,
     config: Config,
-    lengths: Lengths,
+    lengths: PlaceCounts,
 ) -> Result<(Option<Refusal>, Duties), AllocError> {
     let mut bids = vec![in heap; NO_QUOTE; lengths[0]]?;
     let mut asks = vec![in heap; NO_QUOTE; lengths[1]]?;

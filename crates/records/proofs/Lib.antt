@@ -1,3 +1,4 @@
 pub mod Bytes
+pub mod Formats
 pub mod Fronts
 pub mod Trips

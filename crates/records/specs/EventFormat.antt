@@ -9,7 +9,7 @@ use Rattle.records.specs.Forms.{event_form, all_settled}
 use Rattle.records.specs.Formats.{LawfulFormat}
 use Rattle.records.specs.Inverses.{word_at, WordInverse, side_of, side_inverse, pair_of, pair_inverse}
 
-event_length : (e : Event) → length (event_bytes e) ≡ 24
+pub event_length : (e : Event) → length (event_bytes e) ≡ 24
 event_length (Event.Make c r) = refl
 event_length (Event.Clock t) = refl
 event_length (Event.Quote d p) = refl
@@ -20,7 +20,7 @@ event_length (Event.Cancel n a) = refl
 event_length (Event.Click d n) = refl
 event_length Event.Close = refl
 
-event_keeps : (e : Event) → all_settled (event_form (slice_index (event_bytes e) 0)) (event_bytes e) ≡ event_bytes e
+pub event_keeps : (e : Event) → all_settled (event_form (slice_index (event_bytes e) 0)) (event_bytes e) ≡ event_bytes e
 event_keeps (Event.Make c r) = refl
 event_keeps (Event.Clock t) = refl
 event_keeps (Event.Quote d p) = refl
@@ -33,7 +33,7 @@ event_keeps (Event.Click d n) = refl
 event_keeps Event.Close = refl
 
 -- the numbers of a making's record
-abbrev config_of : List ℕ → Config
+abbrev pub config_of : List ℕ → Config
 config_of xs = record {
   dealers = slice_index xs 2;
   least_quantity = word_at xs 8;
@@ -42,7 +42,7 @@ config_of xs = record {
 }
 
 -- the event of a record
-abbrev event_of : List ℕ → Event
+abbrev pub event_of : List ℕ → Event
 event_of xs =
     cond (slice_index xs 0 == 77) (Event.Make (config_of xs) (word_at xs 20))
     (cond (slice_index xs 0 == 78) (Event.Clock (word_at xs 4))
@@ -53,7 +53,7 @@ event_of xs =
     (cond (slice_index xs 0 == 67) (Event.Cancel (word_at xs 8) (word_at xs 12))
     (cond (slice_index xs 0 == 75) (Event.Click (slice_index xs 2) (word_at xs 8)) Event.Close)))))))
 
-event_inverse : WordInverse → (e : Event) → EventFits e → event_of (event_bytes e) ≡ e
+pub event_inverse : WordInverse → (e : Event) → EventFits e → event_of (event_bytes e) ≡ e
 event_inverse word (Event.Make c r) l = λ i. Event.Make (record {
   dealers = c.dealers;
   least_quantity = word c.least_quantity l.1 i;

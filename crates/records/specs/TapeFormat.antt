@@ -8,7 +8,7 @@ use Rattle.records.specs.Forms.{tape_form, all_settled}
 use Rattle.records.specs.Formats.{LawfulFormat}
 use Rattle.records.specs.Inverses.{word_at, WordInverse, side_of, side_inverse, side_keeps, pair_of, pair_inverse}
 
-tape_length : (t : TapeRecord) → length (tape_bytes t) ≡ 24
+pub tape_length : (t : TapeRecord) → length (tape_bytes t) ≡ 24
 tape_length (TapeRecord.Quote t d p) = refl
 tape_length (TapeRecord.Withdrawal t d) = refl
 tape_length (TapeRecord.Order t s p q) = refl
@@ -18,7 +18,7 @@ tape_length (TapeRecord.Trade t) = refl
 tape_length (TapeRecord.Late t d m) = refl
 tape_length (TapeRecord.Halt t d) = refl
 
-tape_keeps : (t : TapeRecord) → all_settled (tape_form (slice_index (tape_bytes t) 0)) (tape_bytes t) ≡ tape_bytes t
+pub tape_keeps : (t : TapeRecord) → all_settled (tape_form (slice_index (tape_bytes t) 0)) (tape_bytes t) ≡ tape_bytes t
 tape_keeps (TapeRecord.Quote t d p) = refl
 tape_keeps (TapeRecord.Withdrawal t d) = refl
 tape_keeps (TapeRecord.Order t s p q) = λ i. row "O" (side_keeps s i) 0 t p q 0 0
@@ -41,7 +41,7 @@ trade_of xs = record {
 }
 
 -- the tape record of some bytes
-abbrev tape_of : List ℕ → TapeRecord
+abbrev pub tape_of : List ℕ → TapeRecord
 tape_of xs =
     cond (slice_index xs 0 == 81) (TapeRecord.Quote (word_at xs 4) (slice_index xs 2) (pair_of xs))
     (cond (slice_index xs 0 == 87) (TapeRecord.Withdrawal (word_at xs 4) (slice_index xs 2))
@@ -52,7 +52,7 @@ tape_of xs =
     (cond (slice_index xs 0 == 76) (TapeRecord.Late (word_at xs 4) (slice_index xs 2) (word_at xs 8))
     (TapeRecord.Halt (word_at xs 4) (word_at xs 8))))))))
 
-tape_inverse : WordInverse → (t : TapeRecord) → TapeFits t → tape_of (tape_bytes t) ≡ t
+pub tape_inverse : WordInverse → (t : TapeRecord) → TapeFits t → tape_of (tape_bytes t) ≡ t
 tape_inverse word (TapeRecord.Quote t d p) l = λ i. TapeRecord.Quote (word t l.0 i) d (pair_inverse word p l.2 l.3 l.4 l.5 i)
 tape_inverse word (TapeRecord.Withdrawal t d) l = λ i. TapeRecord.Withdrawal (word t l.0 i) d
 tape_inverse word (TapeRecord.Order t s p q) l = λ i. TapeRecord.Order (word t l.0 i) (side_inverse s i) (word p l.1 i) (word q l.2 i)

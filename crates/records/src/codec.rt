@@ -1,5 +1,5 @@
 // One reader and one writer for the records of every format.
-ghost use Rattle.std.specs.Prelude.{◌≡◌, ℕ, List};
+ghost use Rattle.std.specs.Prelude.{◌≡◌, ℕ, ◌+◌, List, length, take, MatchOption, ◌≢◌};
 ghost use Rattle.records.specs.Formats.{LawfulFormat};
 ghost use Rattle.records.specs.Forms.{Slot};
 ghost use Rattle.records.specs.Parts.{Outlined};
@@ -36,6 +36,15 @@ pub fn write<T: Record>(value: &T) -> [u8; RECORD_LENGTH]
     value.to_bytes()
 }
 
+// The first place at which bytes differ from a value's record.
+fn first_wrong<T: Record>(value: &T, bytes: &[u8]) -> Option<usize>
+    requires { length bytes.now ≡ 24 }
+    ensures fits { T.fits value.now }
+    ensures first { MatchOption result (T.bytes_of value.now ≡ bytes.now) (λ i. (take i (T.bytes_of value.now) ≡ take i bytes.now) × (take (i + 1) (T.bytes_of value.now) ≢ take (i + 1) bytes.now)) }
+{
+    first_difference(&value.to_bytes(), bytes)
+}
+
 // The value of a record, or why there is none. What is accepted writes back to its own bytes.
 pub fn read<T: Record>(bytes: &[u8]) -> Result<T, Malformed>
     ensures { Answered T.bytes_of T.fits bytes.now result }
@@ -52,7 +61,7 @@ pub fn read<T: Record>(bytes: &[u8]) -> Result<T, Malformed>
         zero: *zero,
     };
     let value = T::from_parts(head, words).ok_or(Malformed::Byte { place: 0 })?;
-    match first_difference(&write(&value), bytes) {
+    match first_wrong(&value, bytes) {
         Some(place) => Err(Malformed::Byte { place }),
         None => Ok(value),
     }

@@ -18,7 +18,7 @@ const FIRST_CLOCK: u32 = 3_060_000;
 fn may_be_made(config: &Config, places: &Lengths) -> bool
     ensures { result ≡ may_be_made config.now (sizes_of places.now) }
 {
-    is_within(2, 16, u32::from(config.dealers))
+    (2..=16).contains(&config.dealers)
         && is_within(1_000, 100_000, config.least_quantity)
         && config.least_quantity % LOT == 0
         && config.previous_average <= HIGHEST_PRICE

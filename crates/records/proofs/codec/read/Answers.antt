@@ -1,7 +1,7 @@
 use Rattle.std.proofs.Common.{◌≡◌, Err, refl, arith, ltb-false, rules}
 use Rattle.records.specs.declared.Malformed.TheVariants.{Byte}
 use Rattle.records.proofs.Fronts.{whole, wrong_byte, wrong_kind}
-use Rattle.records.proofs.Trips.{answered}
+use Rattle.records.proofs.Trips.{answered, written}
 use Rattle.records.proofs.codec.read.Goals as goal
 
 pub returns-in_err-value : goal.returns-in_err-value
@@ -19,4 +19,4 @@ returns-in-Some g c =
     let w = c.in_ok-words.words in
     let law = g.met.T.Record.lawful in
     answered law xs _ (wrong_byte law xs _ w _ _ _ _ (whole xs w _ (omega (arith, ltb-false)) refl refl refl refl (search rules))
-    c.write.ensures c.from_parts.ensures c.in_ok-value.ensures.ok_part c.in-Some.ensures)
+    (written law _ _ refl c.first_wrong.ensures.fits) c.from_parts.ensures c.in_ok-value.ensures.ok_part c.in-Some.ensures.first)
