@@ -81,6 +81,7 @@ fn print(rt: &HostRuntime, path: &str) -> anyhow::Result<()> {
     Ok(())
 }
 
+// Both programs have these few lines: what is alike is a read and two messages, with nothing to promise.
 fn run_with(rt: &HostRuntime) -> anyhow::Result<()> {
     let mut args = env::args(rt)?;
     let _program = args.next();

@@ -12,12 +12,13 @@ pub const DEALERS: usize = 16;
 // How long a dealer has to restore its quotes, in hundredths of a second.
 const GRACE: u32 = 18_000;
 
+// Always sixteen states, of which those of the session's dealers are the first: how many these are stands in the session.
 #[derive(Clone, Copy, PartialEq, Eq, Debug)]
 pub struct Duties {
     pub states: [Duty; DEALERS],
 }
 
-// A duty after an event at that time, by whether the dealer now quotes both sides.
+// A duty after an event at that time, by whether the dealer now quotes both sides. The session's clock is at most 15:00.
 fn after(clock: u32, both: bool, duty: Duty) -> Duty
     requires { clock ≤ 5400000 }
     ensures { result ≡ duty_after clock both duty }
@@ -148,6 +149,7 @@ impl Duties {
         ensures behind { drop result free.new ≡ drop result free.old }
     {
         let duties = self.of_first(dealers);
+        // Counted by hand, since a proof knows nothing of what is written through an adapter of `iter_mut`.
         let mut told = 0;
         for (i, duty) in duties.iter().enumerate() {
             if let Some(late) = late_record(time, i as u8 + 1, *duty) {

@@ -102,6 +102,7 @@ fn after(
                 let session = Session::Early(session);
                 (Stage::Running { rule, session }, Ok(Answer::Made))
             }
+            // The stage goes on beside the fault, so `?` would lose it.
             Err(fault) => (Stage::Ended, Err(fault)),
         },
         Stage::Running { rule, session } => {

@@ -18,6 +18,7 @@ pub enum Session {
     Over(Closed),
 }
 
+// What both phases take has an arm here and in `after_bell`: a third function would still have to say which events it leaves.
 fn before_bell<R: Rule>(
     mut session: PreOpen,
     rule: &R,
@@ -45,6 +46,7 @@ fn ring<R: Rule>(session: PreOpen, rule: &R, memory: &mut Memory) -> (Session, O
 {
     match session.ring(rule, memory) {
         Ok(open) => (Session::Trading(open), Ok(Answer::Rung)),
+        // The session goes on beside the refusal, so `?` would lose it.
         Err((refusal, session)) => (Session::Early(session), Err(refusal)),
     }
 }

@@ -6,5 +6,6 @@ pub mod Settling
 pub mod Splits
 pub mod Kept
 pub mod StepKinds
+pub mod Words
 pub mod QuietEvents
 pub mod Runs

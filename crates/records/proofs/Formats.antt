@@ -1,18 +1,13 @@
 -- Both formats are lawful, and a value of either can be had back from its record. Assumes nothing.
 use Rattle.std.proofs.Common.{◌≡◌, arith}
-use Rattle.std.proofs.lemmas.Nat.{shr-shr}
 use Rattle.market.specs.declared.Event.{Event}
 use Rattle.market.specs.declared.TapeRecord.{TapeRecord}
 use Rattle.records.specs.Layout.{event_bytes, tape_bytes, EventFits, TapeFits}
 use Rattle.records.specs.Forms.{event_form, tape_form}
 use Rattle.records.specs.Formats.{LawfulFormat}
-use Rattle.records.specs.Inverses.{WordInverse}
+use Rattle.market.proofs.Words.{word_inverse}
 use Rattle.records.specs.EventFormat as of_events
 use Rattle.records.specs.TapeFormat as of_tape
-
--- a word is the number that its bytes stand for
-pub word_inverse : WordInverse
-word_inverse n l = omega (arith, shr-shr n 16 8, shr-shr n 8 8)
 
 pub event_inverse : (e : Event) → EventFits e → of_events.event_of (event_bytes e) ≡ e
 event_inverse = of_events.event_inverse word_inverse

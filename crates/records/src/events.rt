@@ -2,8 +2,7 @@
 ghost use Rattle.records.specs.Layout.{event_bytes, EventFits};
 ghost use Rattle.records.specs.Forms.{event_form};
 ghost use Rattle.records.specs.EventFormat.{event_format};
-ghost use Rattle.std.proofs.Common.{arith};
-ghost use Rattle.std.proofs.lemmas.Nat.{shr-shr};
+ghost use Rattle.market.proofs.Words.{word_inverse};
 
 use crate::RECORD_LENGTH;
 use crate::codec::Record;
@@ -17,7 +16,7 @@ impl Record for Event {
 
     ghost form_of = { event_form };
 
-    ghost lawful = { event_format (λ n l. Prim.omega (arith, shr-shr n 16 8, shr-shr n 8 8)) };
+    ghost lawful = { event_format word_inverse };
 
     fn to_bytes(&self) -> [u8; RECORD_LENGTH] {
         match *self {
@@ -57,6 +56,7 @@ impl Record for Event {
             zero: _,
         } = head;
         let [time, a, b, c, d] = words;
+        // The kinds are told by their letters, as the format has them: another byte there is no kind, and its place is told.
         Some(match kind as char {
             'M' => Event::Make {
                 config: Config {

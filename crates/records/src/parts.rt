@@ -68,7 +68,7 @@ pub fn pair_of(words: Words) -> Pair
     }
 }
 
-// The letter that stands for a side.
+// The letter that stands for a side. It belongs to the format and not to `Side`, so it is no conversion of that type.
 pub fn side_letter(side: Side) -> u8
     ensures { result ≡ letter side }
 {

@@ -4,8 +4,8 @@ ghost use Rattle.records.specs.Layout.{ascii, tape_bytes, TapeFits};
 ghost use Rattle.records.specs.Parts.{parts_of};
 ghost use Rattle.records.specs.Forms.{tape_form, all_settled};
 ghost use Rattle.records.specs.TapeFormat.{tape_format};
-ghost use Rattle.std.proofs.Common.{arith, rules};
-ghost use Rattle.std.proofs.lemmas.Nat.{shr-shr};
+ghost use Rattle.std.proofs.Common.{rules};
+ghost use Rattle.market.proofs.Words.{word_inverse};
 
 use crate::RECORD_LENGTH;
 use crate::codec::Record;
@@ -51,7 +51,7 @@ impl Record for TapeRecord {
 
     ghost form_of = { tape_form };
 
-    ghost lawful = { tape_format (λ n l. Prim.omega (arith, shr-shr n 16 8, shr-shr n 8 8)) (Prim.search rules) };
+    ghost lawful = { tape_format word_inverse (Prim.search rules) };
 
     fn to_bytes(&self) -> [u8; RECORD_LENGTH] {
         match *self {

@@ -33,6 +33,7 @@ impl Session<BeforeBell> {
                 ledger,
                 phase: Trading,
             }),
+            // The session goes back beside the refusal, so `?` would lose it.
             Err(refusal) => Err((refusal, Session { ledger, phase })),
         }
     }
