@@ -1,2 +1,2 @@
 pub mod Text
-pub mod Listing
+pub mod Report

@@ -1,27 +1,35 @@
--- The text of a line of the listing. Assumes nothing.
+-- The text of a report's lines. Assumes nothing.
 use Rattle.std.specs.Prelude.{ℕ, List, [], ◌∷◌, ◌++◌, Ok, Err, codes, decimal, Result}
+use Rattle.std.proofs.Math.Utf8.{encode}
 use Rattle.market.specs.Text.{numbers}
-use Rattle.market.specs.declared.Event.{Event}
-use Rattle.market.specs.declared.Side.TheVariants.{Buy, Sell}
-use Rattle.records.specs.declared.Malformed.{Malformed}
-use Rattle.records.specs.declared.Malformed.TheVariants.{Length, Byte}
-use Rattle.console.specs.declared.listing.Line.{Line}
+use Rattle.market.specs.declared.Answer.{Answer}
+use Rattle.market.specs.declared.Summary.{Summary}
+use Rattle.market.specs.Outcomes.{answer_values}
+use Rattle.day.specs.declared.faults.Fault.{Fault}
+use Rattle.day.specs.Faults.{fault_text}
+use Rattle.console.specs.declared.report.Line.{Line}
 
--- the kind letter and the named values, or `?`, 17, and the wrong byte's place or the length
-abbrev pub said_text : Result Event Malformed → List ℕ
-said_text (Ok (Event.Make config rule)) = codes " M" ++ numbers (config.dealers ∷ config.least_quantity ∷ config.previous_average ∷ config.day_kind ∷ rule ∷ [])
-said_text (Ok (Event.Clock time)) = codes " N" ++ numbers (time ∷ [])
-said_text (Ok (Event.Quote dealer pair)) = codes " Q" ++ numbers (dealer ∷ pair.bid ∷ pair.bid_quantity ∷ pair.ask ∷ pair.ask_quantity ∷ [])
-said_text (Ok (Event.Withdraw dealer)) = codes " W" ++ numbers (dealer ∷ [])
-said_text (Ok Event.Bell) = codes " B"
-said_text (Ok (Event.Order Buy price quantity)) = codes " O B" ++ numbers (price ∷ quantity ∷ [])
-said_text (Ok (Event.Order Sell price quantity)) = codes " O S" ++ numbers (price ∷ quantity ∷ [])
-said_text (Ok (Event.Cancel number amount)) = codes " C" ++ numbers (number ∷ amount ∷ [])
-said_text (Ok (Event.Click dealer number)) = codes " K" ++ numbers (dealer ∷ number ∷ [])
-said_text (Ok Event.Close) = codes " E"
-said_text (Err (Length found)) = codes " ? 17" ++ numbers (found ∷ [])
-said_text (Err (Byte place)) = codes " ? 17" ++ numbers (place ∷ [])
+-- `ok` and the answer's values, or `refused` and the fault
+abbrev pub outcome_text : Result Answer Fault → List ℕ
+outcome_text (Ok answer) = codes " ok" ++ numbers (answer_values answer)
+outcome_text (Err fault) = codes " refused " ++ fault_text fault
 
--- the record's place in the file, and what it says
+-- the record's place, its letter, and what came of it
 abbrev pub line_text : Line → List ℕ
-line_text l = decimal l.place ++ said_text l.said
+line_text l = decimal l.place ++ (codes " " ++ (encode l.letter ++ outcome_text l.outcome))
+
+-- the day's shares, value and average
+abbrev pub summary_text : Summary → List ℕ
+summary_text s = codes "summary" ++ numbers (s.shares ∷ s.value ∷ s.average ∷ [])
+
+-- the first byte, or a question mark (63) where there is none
+abbrev pub first_byte : List ℕ → ℕ
+first_byte [] = 63
+first_byte (b ∷ bs) = b
+
+-- the letter of a record: a question mark for bytes that are none
+abbrev pub letter_of : List ℕ → Result Answer Fault → ℕ
+letter_of xs (Ok answer) = first_byte xs
+letter_of xs (Err (Fault.Reader place malformed)) = 63
+letter_of xs (Err (Fault.Day place refusal)) = first_byte xs
+letter_of xs (Err (Fault.Session place refusal)) = first_byte xs

@@ -1,7 +1,7 @@
 // A day's report: a line for each record of an event file, and what the day came to.
 ghost use Rattle.std.specs.Prelude.{◌≡◌, IfOk, Some};
-ghost use Rattle.board.specs.Text.{letter_of, line_text, summary_text};
-ghost use Rattle.board.specs.Report.{LineOf, Goes, Reported};
+ghost use Rattle.console.specs.Text.{letter_of, line_text, summary_text};
+ghost use Rattle.console.specs.Report.{LineOf, Goes, Reported};
 
 use book::memory::Memory;
 use day::faults::Fault;

@@ -5,8 +5,8 @@ use Rattle.book.specs.declared.memory.Memory.{Memory}
 use Rattle.day.specs.declared.stages.Day.{Day}
 use Rattle.day.specs.declared.stages.Stage.TheVariants.{Unmade}
 use Rattle.day.specs.Course.{Taken, summary_at}
-use Rattle.board.specs.declared.report.Line.{Line}
-use Rattle.board.specs.Text.{letter_of}
+use Rattle.console.specs.declared.report.Line.{Line}
+use Rattle.console.specs.Text.{letter_of}
 
 -- the line of a record says what the day made of it, with the record's place and letter
 pub record LineOf (bytes : List ℕ) (d d' : Day) (m m' : Memory) (line : Line) : Type 0 where

@@ -1,8 +1,8 @@
 // What each record of an event file says, a line each.
 ghost use Rattle.std.specs.Prelude.{◌≡◌, IfOk, Some};
 ghost use Rattle.std.specs.Slice.Iter.{chunks_rest, chunks_size};
-ghost use Rattle.console.specs.Text.{line_text};
-ghost use Rattle.console.specs.Listing.{LineOf, Lists};
+ghost use Rattle.listing.specs.Text.{line_text};
+ghost use Rattle.listing.specs.Listing.{LineOf, Lists};
 
 use market::Event;
 use records::{Malformed, RECORD_LENGTH, read, side_letter};

@@ -1,7 +1,7 @@
 use Rattle.std.proofs.Common.{rules}
 use Rattle.std.proofs.lemmas.Result.{IfOk-weaker}
-use Rattle.console.proofs.Lines.{listed}
-use Rattle.console.proofs.listing.listing.Goals as goal
+use Rattle.listing.proofs.Lines.{listed}
+use Rattle.listing.proofs.listing.listing.Goals as goal
 
 pub returns : goal.returns
 returns c =

@@ -2,7 +2,7 @@
 use Rattle.std.specs.Prelude.{◌≡◌, ℕ, ◌+◌, ◌<◌, min, List, [], ◌∷◌, ◌++◌, length}
 use Rattle.records.specs.Layout.{event_bytes, EventFits}
 use Rattle.records.specs.Reading.{Answered}
-use Rattle.console.specs.declared.listing.Line.{Line}
+use Rattle.listing.specs.declared.listing.Line.{Line}
 
 -- the line of the bytes at a place says that place, and what a reader answers to the bytes
 pub record LineOf (place : ℕ) (bytes : List ℕ) (line : Line) : Type 0 where
