@@ -42,8 +42,12 @@ pub record Ran (rule : Precedence) (c : Config) (m m' : Memory) (events : List E
   pub guarantee : (k : ℕ) → Guarantee rule c.least_quantity (after rule (start_of c m) (take k events)).lists (log_of rule (start_of c m) (take k events))
   pub stays_lawful : (k : ℕ) → lawful_book rule (after rule (start_of c m) (take k events)) ≡ true
 
--- what a call of `run` promises: a run, or why there is none; then no place of the memory changed
+-- why there is no run: a making outside its limits is refused, also where there is no memory for the outcomes
+abbrev pub NotRun : Config → Memory → NoRun → Type 0
+NotRun c m (Refused why) = (may_be_made c (sizes_of (places_of m)) ≡ false) × (why ≡ Refusal.BadConfig)
+NotRun c m NoMemory = may_be_made c (sizes_of (places_of m)) ≡ true
+
+-- what a call of `run` promises: a run, or why there is none, and then no place of the memory changed
 abbrev pub RunResult : Precedence → Config → Memory → Memory → List Event → Result (Session × Vec (Result Answer Refusal) Global) NoRun → Type 0
 RunResult rule c m m' events (Ok r) = Ran rule c m m' events r.0 (vec_items r.1)
-RunResult rule c m m' events (Err (Refused why)) = (may_be_made c (sizes_of (places_of m)) ≡ false) × (why ≡ Refusal.BadConfig) × SameMemory m m'
-RunResult rule c m m' events (Err NoMemory) = SameMemory m m'
+RunResult rule c m m' events (Err why) = NotRun c m why × SameMemory m m'

@@ -5,7 +5,7 @@ mod accepting;
 mod before_bell;
 mod events;
 pub mod ledger;
-mod making;
+pub mod making;
 mod refusing;
 pub mod states;
 mod taking;

@@ -15,7 +15,7 @@ use market::{Config, Refusal};
 const FIRST_CLOCK: u32 = 3_060_000;
 
 // Whether a session may be made with these numbers and places.
-fn may_be_made(config: &Config, places: &Lengths) -> bool
+pub fn may_be_made(config: &Config, places: &Lengths) -> bool
     ensures { result ≡ may_be_made config.now (sizes_of places.now) }
 {
     (2..=16).contains(&config.dealers)
