@@ -94,6 +94,15 @@ fn numbers_are_apart(buys: &[Order], sells: &[Order]) -> bool
     are_disjoint(buys, sells) && are_apart(buys) && are_apart(sells)
 }
 
+// Whether each of these quotes is one that may stand in a list.
+fn may_all_stand(dealers: u8, taped: u32, quotes: &[Quote]) -> bool
+    ensures { result ≡ list_all (lawful_quote dealers taped) quotes.now }
+{
+    quotes
+        .iter()
+        .all(|quote| quote_is_lawful(dealers, taped, quote))
+}
+
 // One side's quotes: each as it may be, no dealer twice, strictly in precedence.
 fn quotes_are_lawful<R: Rule>(
     rule: &R,
@@ -104,11 +113,7 @@ fn quotes_are_lawful<R: Rule>(
 ) -> bool
     ensures { result ≡ lawful_quotes (rule_of (R.quotes rule.now) (R.orders rule.now)) side dealers taped quotes.now }
 {
-    quotes
-        .iter()
-        .all(|quote| quote_is_lawful(dealers, taped, quote))
-        && are_apart(quotes)
-        && in_order(rule, side, quotes)
+    may_all_stand(dealers, taped, quotes) && are_apart(quotes) && in_order(rule, side, quotes)
 }
 
 // One side's orders: each as it may be, strictly in precedence.
